@@ -4,11 +4,11 @@
 //! - what `YES` and `NO` mean: `Bounded`, `Unbounded` of wh_step/specs/Reduction;
 //! - the dependency pairs of a system: `HasPairs` of wh_pairs/specs/SystemPairs;
 //! - which bytes are a certificate: `CertText` of wh_cert/specs/CertText, whose grammar stands at the head of
-//!   wh_cert/specs/Text, and that of the lines of a path order in wh_inference/specs;
+//!   wh_cert/specs/Text, and that of the lines of a path order in wh_order_inference/specs;
 //! - which certificates are valid: `IsValidCert` of wh_proof/specs/Valid;
 //! - the conditions of a node: `Leaves` of wh_proof/specs/Nodes; of a `poly` node `IsCovering` of
 //!   wh_polycheck/specs/Covering, and of the rules that it lists `IsUsable` of wh_usable/specs/Closed; of an `order`
-//!   node `IsOrdering` of wh_ordering/specs/Ordering;
+//!   node `IsOrdering` of wh_order_node/specs/Ordering;
 //! - why `prove` answers `MAYBE`: `IsReason` of wh_prover/specs/Answers.
 #![tactic(auto)]
 

@@ -11,7 +11,7 @@ use wh_answer::{Report, out_of_memory_line, print_answer};
 use wh_explain::{explain_file, graph_file, lint_file};
 use wh_explain_words::{Request, read_request};
 use wh_io::{FileShelf, Shelf, StdSink, write_all_of};
-use wh_naming::{Status, status_of};
+use wh_top_naming::{Status, status_of};
 use wh_types::{Bytes, Or};
 
 fn main(rt: HostRuntime) -> ExitCode {

@@ -5,7 +5,7 @@ use Rattle.wh_terms.specs.Tree.{Tm, bound, free, fun, meta, lam, app, Tms, none,
 use Rattle.wh_terms.specs.Typing.{Symbols}
 use Rattle.wh_terms.specs.Sight.{Occurs, OccursIn}
 use Rattle.wh_terms.specs.Rules.{RewriteRule}
-use Rattle.wh_laws.specs.Ranks.{RanksBelow, IsAccessibleIn, IsAccessible}
+use Rattle.wh_step_laws.specs.Ranks.{RanksBelow, IsAccessibleIn, IsAccessible}
 use Rattle.wh_system.proofs.TypedDecided.{Decided, below_decided, decided_by, both_decided}
 use Rattle.wh_pairs.proofs.ByPlace.{some_one}
 use Rattle.wh_access.specs.Readings.{Place, reading_of}

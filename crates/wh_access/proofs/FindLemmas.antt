@@ -7,7 +7,7 @@ use Rattle.wh_types.specs.Ty.{Ty, sort, ◌⇒◌, arguments, result_sort, Sorts
 use Rattle.wh_terms.specs.Tree.{Tm, head, argument_count}
 use Rattle.wh_terms.specs.Typing.{Symbols, Declared, Typed, typed_bound, typed_free, typed_fun, typed_meta, typed_lam, typed_app}
 use Rattle.wh_terms.specs.Rules.{RewriteRule}
-use Rattle.wh_laws.specs.Ranks.{rank_of, RanksBelow, IsAccessibleIn}
+use Rattle.wh_step_laws.specs.Ranks.{rank_of, RanksBelow, IsAccessibleIn}
 use Rattle.wh_system.specs.Systems.{SystemData}
 use Rattle.wh_system.specs.WellMade.{IsTypeOver, IsWellMadeSystem}
 use Rattle.wh_access.specs.Readings.{Place, Reading, symbol_of, behind, within_argument, readings, readings_of_left, first_way, way_to}

@@ -3,7 +3,7 @@ use Rattle.std.proofs.Common.{◌≡◌, ℕ, Bool, true, false, eqb, List, [], 
 use Rattle.std.proofs.lemmas.List.Elements.{All-cons, All-head, All-tail}
 use Rattle.wh_terms.specs.Tree.{Tm, app, head, argument_count}
 use Rattle.wh_terms.specs.Typing.{Symbols}
-use Rattle.wh_laws.specs.Ranks.{IsAccessible}
+use Rattle.wh_step_laws.specs.Ranks.{IsAccessible}
 use Rattle.wh_access.specs.Readings.{Place, Reading, behind, symbol_of, within_argument, readings, readings_of_left, first_way, way_to}
 use Rattle.wh_access.specs.Answered.{TellsOpen}
 

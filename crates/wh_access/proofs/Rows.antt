@@ -4,7 +4,7 @@ use Rattle.std.proofs.lemmas.List.Elements.{All-nil, All-cons, All-head}
 use Rattle.wh_types.specs.Ty.{Ty, sort, ◌⇒◌, arguments, result_sort}
 use Rattle.wh_terms.specs.Typing.{Symbols}
 use Rattle.wh_terms.specs.Rules.{RewriteRule}
-use Rattle.wh_laws.specs.Ranks.{rank_of, RanksBelow, IsAccessibleIn, IsAccessible}
+use Rattle.wh_step_laws.specs.Ranks.{rank_of, RanksBelow, IsAccessibleIn, IsAccessible}
 use Rattle.wh_access.specs.Readings.{Place}
 use Rattle.wh_access.specs.Demands.{LeadsStrictly, IsStrictCycle}
 use Rattle.wh_access.specs.Passing.{AllAccessible, EachUsed, Passes, Passing, IsFirstBreak}

@@ -3,7 +3,7 @@ use Rattle.std.specs.Prelude.{ℕ, ◌≡◌, ◌<◌, ◌≤◌, ◌↔◌, Lis
 use Rattle.wh_types.specs.Limits.{most_sorts}
 use Rattle.wh_terms.specs.Rules.{RewriteRule}
 use Rattle.wh_system.specs.Systems.{SystemData}
-use Rattle.wh_laws.specs.Ranks.{rank_of}
+use Rattle.wh_step_laws.specs.Ranks.{rank_of}
 use Rattle.wh_access.specs.Passing.{AllRead, IsFirstUnread}
 use Rattle.wh_access.specs.Demands.{Demand, IsDemand, IsCycle, IsStrictCycle}
 use Rattle.wh_access.specs.Tables.{InTables, LeadsIn, LeadsStrictlyIn, LeadsBelow, LeadsStrictlyBelow}

@@ -4,7 +4,7 @@ use Rattle.wh_terms.specs.Tree.{Tm}
 use Rattle.wh_terms.specs.Typing.{Symbols}
 use Rattle.wh_terms.specs.Sight.{Occurs}
 use Rattle.wh_terms.specs.Rules.{RewriteRule}
-use Rattle.wh_laws.specs.Ranks.{rank_of, IsAccessible}
+use Rattle.wh_step_laws.specs.Ranks.{rank_of, IsAccessible}
 use Rattle.wh_system.specs.Systems.{SystemData}
 use Rattle.wh_access.specs.Readings.{Place, reading_of}
 

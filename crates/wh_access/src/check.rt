@@ -4,7 +4,7 @@ ghost use Rattle.std.specs.Prelude.{◌≡◌, ◌↔◌, ◌<◌, ◌^◌, IsTr
 ghost use Rattle.wh_access.specs.Passing.{IsFirstBreakIn, IsPassing, Passes};
 ghost use Rattle.wh_access.specs.Readings.{readings, readings_of_left};
 ghost use Rattle.wh_access.specs.Answered.{IsFirstIn, TellsOpen};
-ghost use Rattle.wh_laws.specs.Ranks.{rank_of};
+ghost use Rattle.wh_step_laws.specs.Ranks.{rank_of};
 ghost use Rattle.wh_system.specs.SystemView.{system_data};
 ghost use Rattle.wh_terms.specs.Erase.{rewrite_rule, symbols, tm};
 ghost use Rattle.wh_terms.specs.Measures.{nesting};

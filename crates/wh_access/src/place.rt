@@ -2,7 +2,7 @@
 
 ghost use Rattle.std.specs.Prelude.{◌≡◌, ◌↔◌, ◌<◌, ◌^◌, IsTrue, MatchOption, Some, None, option_map, slice_get};
 ghost use Rattle.wh_access.specs.Readings.{symbol_of};
-ghost use Rattle.wh_laws.specs.Ranks.{IsAccessible, RanksBelow, rank_of};
+ghost use Rattle.wh_step_laws.specs.Ranks.{IsAccessible, RanksBelow, rank_of};
 ghost use Rattle.wh_terms.specs.Erase.{symbols, tm};
 ghost use Rattle.wh_terms.specs.Measures.{nesting};
 ghost use Rattle.wh_terms.specs.Tree.{argument_count, head};

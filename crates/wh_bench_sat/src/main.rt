@@ -14,7 +14,7 @@ use std::alloc::{AllocError, Global};
 use std::process::ExitCode;
 use std::rt::{Env, Files};
 use std::{env, fs};
-use wh_listed::{Listed, solve_listed};
+use wh_sat_listed::{Listed, solve_listed};
 use wh_refute::check_refutation;
 use wh_sat::{Outcome, solve_owned};
 use wh_sat_trail::{Formula, Refutation};

@@ -5,9 +5,9 @@ use Rattle.wh_terms.specs.Places.{IsPath}
 use Rattle.wh_terms.specs.declared.path.Step as taken
 use Rattle.wh_text.specs.Words.{IsWord}
 use Rattle.wh_hopoly.specs.declared.expression.Move as moved
-use Rattle.wh_inference.specs.Inferences.{entries}
-use Rattle.wh_inference.specs.InferenceLimits.{InferenceFits}
-use Rattle.wh_inference.specs.FilterText.{WrittenFilter, keeps, picks, FilterFits}
+use Rattle.wh_order_inference.specs.Inferences.{entries}
+use Rattle.wh_order_inference.specs.InferenceLimits.{InferenceFits}
+use Rattle.wh_order_inference.specs.FilterText.{WrittenFilter, keeps, picks, FilterFits}
 use Rattle.wh_cert.specs.TermLimits.{TypeFits, TermFits, IsSmall}
 use Rattle.wh_cert.specs.PolyLimits.{IsBig, PolyFits}
 use Rattle.wh_cert.specs.Interps.{Interp}

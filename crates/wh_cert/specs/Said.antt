@@ -2,7 +2,7 @@
 use Rattle.std.specs.Prelude.{map}
 use Rattle.wh_text.specs.Erase.{rty, rtm}
 use Rattle.wh_poly.specs.Erase.{poly}
-use Rattle.wh_inference.specs.Said.{inference, written_filter}
+use Rattle.wh_order_inference.specs.Said.{inference, written_filter}
 use Rattle.wh_cert.specs.Interps as w_interps
 use Rattle.wh_cert.specs.Items as w_items
 use Rattle.wh_cert.specs.Written as w

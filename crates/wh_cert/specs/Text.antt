@@ -44,9 +44,9 @@ use Rattle.wh_text.specs.Chars.{line_feed}
 use Rattle.wh_terms.specs.declared.path.Step as taken
 use Rattle.wh_text.specs.Spelling.{put_part, put_term}
 use Rattle.wh_hopoly.specs.declared.expression.Move as moved
-use Rattle.wh_inference.specs.Inferences.{Inference}
-use Rattle.wh_inference.specs.InferenceText.{put_inference}
-use Rattle.wh_inference.specs.FilterText.{put_filter}
+use Rattle.wh_order_inference.specs.Inferences.{Inference}
+use Rattle.wh_order_inference.specs.InferenceText.{put_inference}
+use Rattle.wh_order_inference.specs.FilterText.{put_filter}
 use Rattle.wh_cert.specs.PolyText.{put_poly}
 use Rattle.wh_cert.specs.Interps.{Interp}
 use Rattle.wh_cert.specs.Written.{Put, Arg, Filtering, Node, done, alone, blocks, subterm, interpretations, order, Cert, yes, no}

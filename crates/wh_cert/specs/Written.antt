@@ -3,8 +3,8 @@ use Rattle.std.specs.Prelude.{ℕ, zero, suc, ◌+◌, List, [], ◌∷◌, leng
 use Rattle.wh_terms.specs.declared.path.Step as taken
 use Rattle.wh_text.specs.RawTree.{RTy, RTm}
 use Rattle.wh_hopoly.specs.declared.expression.Move as moved
-use Rattle.wh_inference.specs.Inferences.{Inference}
-use Rattle.wh_inference.specs.FilterText.{WrittenFilter}
+use Rattle.wh_order_inference.specs.Inferences.{Inference}
+use Rattle.wh_order_inference.specs.FilterText.{WrittenFilter}
 use Rattle.wh_cert.specs.Interps.{Interp}
 
 -- a variable by its number and its type, and the term that is put for it

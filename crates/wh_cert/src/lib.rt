@@ -13,4 +13,4 @@ pub use certificate::{
 pub use item::Item;
 pub use order_node::{NamedFilter, NamedFilters, OrderNode};
 pub use poly_node::{Interp, Interps, PolyNode};
-pub use wh_inference::{Filter, Inference, Inferences, Letter};
+pub use wh_order_inference::{Filter, Inference, Inferences, Letter};

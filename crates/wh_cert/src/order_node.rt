@@ -1,6 +1,6 @@
 //! Nodes of path orders: argument filters for symbols, and inferences for rules and pairs.
 
-use wh_inference::{Filter, Inferences};
+use wh_order_inference::{Filter, Inferences};
 use wh_text::Name;
 use wh_types::{List, Numbers};
 

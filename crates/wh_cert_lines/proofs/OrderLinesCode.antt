@@ -1,9 +1,9 @@
 -- What the reader of the lines of a node of a path order keeps, as trees.
 use Rattle.std.proofs.Common.{◌≡◌, ℕ, List, map, refl, sym, ap, ◌∙◌}
 use Rattle.std.proofs.lemmas.List.{map_push}
-use Rattle.wh_inference.specs.Inferences as m
-use Rattle.wh_inference.specs.Said.{inference}
-use Rattle.wh_inference.specs.declared.inference.Inference.{Inference}
+use Rattle.wh_order_inference.specs.Inferences as m
+use Rattle.wh_order_inference.specs.Said.{inference}
+use Rattle.wh_order_inference.specs.declared.inference.Inference.{Inference}
 use Rattle.wh_cert.specs.Written.{Filtering, order}
 use Rattle.wh_cert.specs.Said.{said_filter}
 use Rattle.wh_cert.specs.declared.order_node.NamedFilter.{NamedFilter}

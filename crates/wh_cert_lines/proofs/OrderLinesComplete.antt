@@ -4,15 +4,15 @@ use Rattle.std.specs.List.{All}
 use Rattle.std.proofs.lemmas.Bool.{cond-true, lt-ltb, and_from}
 use Rattle.std.proofs.lemmas.List.Elements.{All-head, All-tail}
 use Rattle.wh_text.specs.Chars.{is_start, is_part}
-use Rattle.wh_letters.proofs.NamesAndNumbers.{ReadsNames, name_run}
-use Rattle.wh_inference.specs.Inferences.{Inference}
-use Rattle.wh_inference.specs.InferenceText.{put_inference}
-use Rattle.wh_inference.specs.InferenceLimits.{InferenceFits}
-use Rattle.wh_inference.specs.FilterText.{WrittenFilter, put_filter}
-use Rattle.wh_order_parts.specs.FilterMachine as f
-use Rattle.wh_order_parts.specs.InferenceMachine as i
-use Rattle.wh_order_parts.proofs.FilterWhole.{reads_filter}
-use Rattle.wh_order_parts.proofs.InferenceWhole.{reads}
+use Rattle.wh_cert_letters.proofs.NamesAndNumbers.{ReadsNames, name_run}
+use Rattle.wh_order_inference.specs.Inferences.{Inference}
+use Rattle.wh_order_inference.specs.InferenceText.{put_inference}
+use Rattle.wh_order_inference.specs.InferenceLimits.{InferenceFits}
+use Rattle.wh_order_inference.specs.FilterText.{WrittenFilter, put_filter}
+use Rattle.wh_order_text.specs.FilterMachine as f
+use Rattle.wh_order_text.specs.InferenceMachine as i
+use Rattle.wh_order_text.proofs.FilterWhole.{reads_filter}
+use Rattle.wh_order_text.proofs.InferenceWhole.{reads}
 use Rattle.wh_cert.specs.Written.{Filtering}
 use Rattle.wh_cert.specs.Text.{put_filterings, put_all_shown}
 use Rattle.wh_cert.specs.Limits.{FilteringFits}

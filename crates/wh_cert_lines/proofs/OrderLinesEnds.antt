@@ -4,16 +4,16 @@ use Rattle.std.proofs.lemmas.Bool.{cond-true, eq-eqb}
 use Rattle.std.proofs.lemmas.List.Elements.{All-nil, All-push}
 use Rattle.std.specs.Fmt.{decimal}
 use Rattle.wh_text.specs.Words.{IsWord}
-use Rattle.wh_letters.proofs.NamesAndNumbers.{first_letter}
-use Rattle.wh_inference.specs.Inferences.{same_trees, Inference, infer, Inferences, no_parts, more_parts, entries, all_entries}
-use Rattle.wh_inference.specs.InferenceText.{Form, alone, with_parts, with_place, form, sign, put_place, put_inference}
-use Rattle.wh_inference.specs.InferenceLimits.{InferenceFits, PartsFit}
-use Rattle.wh_inference.specs.FilterText.{WrittenFilter, keeps, picks, put_places, FilterFits}
-use Rattle.wh_order_parts.specs.FilterMachine as f
-use Rattle.wh_order_parts.specs.InferenceMachine as i
-use Rattle.wh_order_parts.specs.InferenceMachine.{Stack, outside, inside, level, add_part}
-use Rattle.wh_order_parts.proofs.InferenceSound.{seen, front, put_open, put_later, GoodStack, GoodPlace, sound}
-use Rattle.wh_order_parts.proofs.InferenceWhole.{long_inference}
+use Rattle.wh_cert_letters.proofs.NamesAndNumbers.{first_letter}
+use Rattle.wh_order_inference.specs.Inferences.{same_trees, Inference, infer, Inferences, no_parts, more_parts, entries, all_entries}
+use Rattle.wh_order_inference.specs.InferenceText.{Form, alone, with_parts, with_place, form, sign, put_place, put_inference}
+use Rattle.wh_order_inference.specs.InferenceLimits.{InferenceFits, PartsFit}
+use Rattle.wh_order_inference.specs.FilterText.{WrittenFilter, keeps, picks, put_places, FilterFits}
+use Rattle.wh_order_text.specs.FilterMachine as f
+use Rattle.wh_order_text.specs.InferenceMachine as i
+use Rattle.wh_order_text.specs.InferenceMachine.{Stack, outside, inside, level, add_part}
+use Rattle.wh_order_text.proofs.InferenceSound.{seen, front, put_open, put_later, GoodStack, GoodPlace, sound}
+use Rattle.wh_order_text.proofs.InferenceWhole.{long_inference}
 use Rattle.wh_cert.specs.Written.{Filtering}
 use Rattle.wh_cert.specs.Limits.{FilterWithin}
 use Rattle.wh_cert_lines.specs.OrderLines.{Lines, LinesPlace, lines_front, name_wanted, name, in_filter, space_wanted, in_inference, add_named, add_shown}

@@ -8,17 +8,17 @@ use Rattle.std.proofs.Math.Seq.{take-append_seam}
 use Rattle.std.specs.Fmt.{decimal}
 use Rattle.wh_text.specs.Chars.{is_start, is_part}
 use Rattle.wh_text.specs.Words.{IsWord}
-use Rattle.wh_letters.proofs.NamesAndNumbers.{first_letter, next_letter}
-use Rattle.wh_inference.specs.Inferences.{Inference, entries}
-use Rattle.wh_inference.specs.InferenceText.{put_inference}
-use Rattle.wh_inference.specs.InferenceLimits.{InferenceFits}
-use Rattle.wh_inference.specs.FilterText.{WrittenFilter, keeps, picks, put_places, put_filter}
-use Rattle.wh_order_parts.specs.FilterMachine as f
-use Rattle.wh_order_parts.specs.InferenceMachine as i
-use Rattle.wh_order_parts.proofs.FilterSound as filters
-use Rattle.wh_order_parts.proofs.InferenceSound as inferences
-use Rattle.wh_order_parts.proofs.InferenceSound.{seen, GoodStack, GoodPlace}
-use Rattle.wh_order_parts.proofs.InferenceWhole.{long_inference}
+use Rattle.wh_cert_letters.proofs.NamesAndNumbers.{first_letter, next_letter}
+use Rattle.wh_order_inference.specs.Inferences.{Inference, entries}
+use Rattle.wh_order_inference.specs.InferenceText.{put_inference}
+use Rattle.wh_order_inference.specs.InferenceLimits.{InferenceFits}
+use Rattle.wh_order_inference.specs.FilterText.{WrittenFilter, keeps, picks, put_places, put_filter}
+use Rattle.wh_order_text.specs.FilterMachine as f
+use Rattle.wh_order_text.specs.InferenceMachine as i
+use Rattle.wh_order_text.proofs.FilterSound as filters
+use Rattle.wh_order_text.proofs.InferenceSound as inferences
+use Rattle.wh_order_text.proofs.InferenceSound.{seen, GoodStack, GoodPlace}
+use Rattle.wh_order_text.proofs.InferenceWhole.{long_inference}
 use Rattle.wh_cert.specs.Written.{Filtering}
 use Rattle.wh_cert.specs.Text.{put_filtering, put_filterings, put_shown, put_all_shown}
 use Rattle.wh_cert.specs.Limits.{FilteringFits, FilterWithin}

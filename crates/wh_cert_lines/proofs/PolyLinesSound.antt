@@ -8,8 +8,8 @@ use Rattle.std.specs.Fmt.{decimal}
 use Rattle.wh_hopoly.specs.declared.expression.Move as moved
 use Rattle.wh_text.specs.Chars.{is_digit, is_start, is_part}
 use Rattle.wh_text.specs.Words.{IsWord}
-use Rattle.wh_letters.specs.Digits.{goes_on, begins_big, goes_on_big}
-use Rattle.wh_letters.proofs.NamesAndNumbers.{first_letter, next_letter, first_digit_spelled, first_digit_small, goes_on_true, next_digit_spelled}
+use Rattle.wh_cert_letters.specs.Digits.{goes_on, begins_big, goes_on_big}
+use Rattle.wh_cert_letters.proofs.NamesAndNumbers.{first_letter, next_letter, first_digit_spelled, first_digit_small, goes_on_true, next_digit_spelled}
 use Rattle.wh_cert.specs.PolyText.{put_poly}
 use Rattle.wh_cert.specs.TermLimits.{IsSmall}
 use Rattle.wh_cert.specs.PolyLimits.{IsBig}

@@ -3,9 +3,9 @@
 use Rattle.std.specs.Prelude.{ℕ, ◌==◌, ◌&&◌, nat_lt, cond, List, [], ◌∷◌, ◌++◌, length}
 use Rattle.wh_types.specs.Limits.{longest_name}
 use Rattle.wh_text.specs.Chars.{line_feed, space, is_start, is_part}
-use Rattle.wh_inference.specs.Inferences.{Inference}
-use Rattle.wh_order_parts.specs.FilterMachine as f
-use Rattle.wh_order_parts.specs.InferenceMachine as i
+use Rattle.wh_order_inference.specs.Inferences.{Inference}
+use Rattle.wh_order_text.specs.FilterMachine as f
+use Rattle.wh_order_text.specs.InferenceMachine as i
 use Rattle.wh_cert.specs.Written.{Filtering, Node, order}
 use Rattle.wh_cert_lines.specs.Sections as s
 pub use Rattle.wh_cert_lines.specs.Sections.{in_funs, in_marks, in_rules, in_pairs, on, begins, drops, refused, line_first, line_rest, to_marks, to_rules, to_pairs, add_named, add_shown, pair_step, rule_step, mark_step, first_step}

@@ -1,9 +1,9 @@
 -- What the values of the reader of the lines of a node of a path order stand for.
 use Rattle.std.specs.Prelude.{map}
-use Rattle.wh_inference.specs.Said.{inference}
-use Rattle.wh_inference.specs.declared.inference.Inference.{Inference}
-use Rattle.wh_order_parts.specs.FilterViews.{filter_place}
-use Rattle.wh_order_parts.specs.InferenceViews.{inference_stack, inference_place}
+use Rattle.wh_order_inference.specs.Said.{inference}
+use Rattle.wh_order_inference.specs.declared.inference.Inference.{Inference}
+use Rattle.wh_order_text.specs.FilterViews.{filter_place}
+use Rattle.wh_order_text.specs.InferenceViews.{inference_stack, inference_place}
 use Rattle.wh_cert.specs.Said.{said_filter}
 use Rattle.wh_cert.specs.declared.order_node.NamedFilter.{NamedFilter}
 use Rattle.wh_cert_lines.specs.Sections as s

@@ -4,7 +4,7 @@ use Rattle.std.specs.Prelude.{ℕ, ◌+◌, ◌-◌, ◌*◌, ◌==◌, ◌&&◌
 use Rattle.wh_types.specs.Limits.{longest_name}
 use Rattle.wh_hopoly.specs.declared.expression.Move as moved
 use Rattle.wh_text.specs.Chars.{line_feed, space, is_digit, is_start, is_part}
-use Rattle.wh_letters.specs.Digits.{goes_on, begins_big, goes_on_big}
+use Rattle.wh_cert_letters.specs.Digits.{goes_on, begins_big, goes_on_big}
 use Rattle.wh_cert_parts.specs.PolyMachine.{PolyStack, outside, PolyPlace, poly_wanted, PolyStep, goes, poly_ended, no_poly, poly_step}
 use Rattle.wh_cert.specs.Interps.{Interp}
 use Rattle.wh_cert.specs.Written.{Node, interpretations}

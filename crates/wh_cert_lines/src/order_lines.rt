@@ -1,9 +1,9 @@
 //! The lines of a node of a path order up to that of `drop`, byte by byte.
 
 ghost use Rattle.std.specs.Prelude.{◌≡◌, [], IfOk, OnOk};
-ghost use Rattle.wh_inference.specs.Said.{inference as said_inference, written_filter};
-ghost use Rattle.wh_order_parts.specs.FilterMachine.{ended as filter_ended};
-ghost use Rattle.wh_order_parts.specs.InferenceMachine.{ended as inference_ended};
+ghost use Rattle.wh_order_inference.specs.Said.{inference as said_inference, written_filter};
+ghost use Rattle.wh_order_text.specs.FilterMachine.{ended as filter_ended};
+ghost use Rattle.wh_order_text.specs.InferenceMachine.{ended as inference_ended};
 ghost use Rattle.wh_cert.specs.Said.{said_order};
 ghost use Rattle.wh_cert_lines.specs.Sections.{in_funs, first_step};
 ghost use Rattle.wh_cert_lines.specs.OrderLines.{lines_front, name_wanted, name as in_name, space_wanted, line_begun, filter_led, inference_led, lines_step, node_of};
@@ -14,9 +14,9 @@ use crate::sections::{LineBegun, LinesStep, Section, Sections};
 use std::alloc::{AllocError, Global};
 use std::mem;
 use wh_cert::{NamedFilter, NamedFilters, OrderNode};
-use wh_inference::{Filter, Inference, Inferences};
-use wh_letters::{Letters, begins_name};
-use wh_order_parts::{FilterStep, FilterText, InferenceStep, InferenceText};
+use wh_order_inference::{Filter, Inference, Inferences};
+use wh_cert_letters::{Letters, begins_name};
+use wh_order_text::{FilterStep, FilterText, InferenceStep, InferenceText};
 use wh_types::Numbers;
 
 /// How far the present line was read; names, filters and inferences stand in the lines themselves.

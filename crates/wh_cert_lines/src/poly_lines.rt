@@ -15,7 +15,7 @@ use std::mem;
 use wh_cert::{Interp, Interps, PolyNode};
 use wh_cert_parts::{PolyStep, PolyText};
 use wh_hopoly::{Covers, Move, Moves};
-use wh_letters::{Letters, begins_name, first_big, first_number, next_big, next_number};
+use wh_cert_letters::{Letters, begins_name, first_big, first_number, next_big, next_number};
 use wh_poly::Poly;
 use wh_types::Numbers;
 

@@ -5,7 +5,7 @@ use Rattle.std.specs.Prelude.{ℕ, ◌+◌, ◌-◌, ◌*◌, ◌==◌, cond, Li
 use Rattle.wh_terms.specs.declared.path.Step as taken
 use Rattle.wh_text.specs.Chars.{line_feed, space, is_digit}
 use Rattle.wh_text.specs.RawTree.{RTy, RTm}
-use Rattle.wh_letters.specs.Digits.{goes_on}
+use Rattle.wh_cert_letters.specs.Digits.{goes_on}
 use Rattle.wh_cert_parts.specs.TypeMachine.{TypeStack, outside, TypePlace, type_wanted, TypeStep, goes, type_ended, no_type, type_step}
 use Rattle.wh_cert_parts.specs.TermMachine as m
 use Rattle.wh_cert.specs.Written.{Put}

@@ -4,8 +4,8 @@ use Rattle.std.specs.Prelude.{ℕ, zero, suc, ◌+◌, ◌-◌, ◌*◌, ◌==�
 use Rattle.wh_types.specs.Limits.{longest_name}
 use Rattle.wh_text.specs.Chars.{line_feed, space, is_digit, is_start, is_part}
 use Rattle.wh_hopoly.specs.declared.expression.Move as moved
-use Rattle.wh_letters.specs.Digits.{goes_on}
-use Rattle.wh_inference.specs.Inferences.{Inference}
+use Rattle.wh_cert_letters.specs.Digits.{goes_on}
+use Rattle.wh_order_inference.specs.Inferences.{Inference}
 use Rattle.wh_cert.specs.Interps.{Interp}
 use Rattle.wh_cert.specs.Written.{Arg, Filtering, Node, done, alone, blocks, subterm, interpretations, order, children}
 use Rattle.wh_cert_lines.specs.OrderLines as orders

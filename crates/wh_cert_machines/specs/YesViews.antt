@@ -1,6 +1,6 @@
 -- What the values of the reader of YES certificates stand for.
 use Rattle.std.specs.Prelude.{ℕ, zero, suc, List, [], drop, map, Option, Some, None}
-use Rattle.wh_letters.specs.declared.letters.Letters.{Letters}
+use Rattle.wh_cert_letters.specs.declared.letters.Letters.{Letters}
 use Rattle.wh_cert.specs.Written.{blocks}
 use Rattle.wh_cert.specs.Said.{said_arg, said_node}
 use Rattle.wh_cert_machines.specs.YesMachine as m

@@ -18,7 +18,7 @@ use std::alloc::{AllocError, Global};
 use std::mem;
 use wh_cert::{Arg, Args, Node};
 use wh_cert_lines::{LinesStep, OrderLines, PolyLines, Section};
-use wh_letters::{Letters, begins_name, first_number, next_number};
+use wh_cert_letters::{Letters, begins_name, first_number, next_number};
 use wh_types::{Blocks, Numbers};
 
 /// A list of numbers.

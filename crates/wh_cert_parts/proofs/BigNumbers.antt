@@ -5,8 +5,8 @@ use Rattle.std.proofs.lemmas.Bool.{and_parts, and_from, ltb-true, lt-ltb}
 use Rattle.std.specs.Fmt.{decimal}
 use Rattle.std.proofs.lemmas.Fmt.{decimal_step_wide, decimal_by_steps_wide}
 use Rattle.wh_text.specs.Chars.{is_digit}
-use Rattle.wh_letters.specs.Digits.{begins_big, goes_on_big}
-use Rattle.wh_letters.proofs.NamesAndNumbers.{digit_bounds, is_digit_48, first_digit_spelled}
+use Rattle.wh_cert_letters.specs.Digits.{begins_big, goes_on_big}
+use Rattle.wh_cert_letters.proofs.NamesAndNumbers.{digit_bounds, is_digit_48, first_digit_spelled}
 use Rattle.wh_cert.specs.PolyLimits.{IsBig}
 
 pub record ReadsBigs {R : Type 0} (first : List ℕ → R) (behind : ℕ → List ℕ → R) : Type 0 where

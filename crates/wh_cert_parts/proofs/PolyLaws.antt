@@ -5,8 +5,8 @@ use Rattle.std.proofs.lemmas.Bool.{and_parts, eqb-true, ltb-true, cond_both}
 use Rattle.std.specs.Fmt.{decimal}
 use Rattle.wh_text.specs.Chars.{is_digit}
 use Rattle.wh_poly.specs.Polynomials.{Polynomial, zero_poly, plus, Factors, no_factors, times, Arguments, no_arguments, argument}
-use Rattle.wh_letters.specs.Digits.{goes_on, begins_big, goes_on_big}
-use Rattle.wh_letters.proofs.NamesAndNumbers.{goes_on_true, first_digit_spelled, first_digit_small, next_digit_spelled}
+use Rattle.wh_cert_letters.specs.Digits.{goes_on, begins_big, goes_on_big}
+use Rattle.wh_cert_letters.proofs.NamesAndNumbers.{goes_on_true, first_digit_spelled, first_digit_small, next_digit_spelled}
 use Rattle.wh_cert.specs.PolyText.{put_poly, put_sum, put_factors, put_polys, put_more}
 use Rattle.wh_cert.specs.TermLimits.{IsSmall}
 use Rattle.wh_cert.specs.PolyLimits.{IsBig, PolyFits, FactorsFit, PolysFit}

@@ -4,8 +4,8 @@ use Rattle.std.proofs.lemmas.Bool.{and_left, ne_eqb, lt-ltb, cond-true, cond-fal
 use Rattle.std.specs.Fmt.{decimal}
 use Rattle.wh_text.specs.Chars.{is_digit}
 use Rattle.wh_poly.specs.Polynomials.{Polynomial, zero_poly, plus, Factors, no_factors, times, Arguments, no_arguments, argument}
-use Rattle.wh_letters.specs.Digits.{goes_on, begins_big, goes_on_big}
-use Rattle.wh_letters.proofs.NamesAndNumbers.{ReadsNumbers, number_run, is_digit_48, goes_on_48}
+use Rattle.wh_cert_letters.specs.Digits.{goes_on, begins_big, goes_on_big}
+use Rattle.wh_cert_letters.proofs.NamesAndNumbers.{ReadsNumbers, number_run, is_digit_48, goes_on_48}
 use Rattle.wh_cert.specs.PolyText.{put_poly, put_sum, put_factors, put_polys, put_more}
 use Rattle.wh_cert.specs.TermLimits.{IsSmall}
 use Rattle.wh_cert.specs.PolyLimits.{PolyFits, FactorsFit, PolysFit}

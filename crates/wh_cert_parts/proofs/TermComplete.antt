@@ -5,8 +5,8 @@ use Rattle.std.specs.Fmt.{decimal}
 use Rattle.wh_text.specs.Chars.{is_digit, is_start, is_part}
 use Rattle.wh_text.specs.RawTree.{RTy, named_binder, numbered_binder, RTm, named, numbered, free_variable, meta, lam, spine, RTms, none, more}
 use Rattle.wh_text.specs.Spelling.{put_part, put_term, put_parts}
-use Rattle.wh_letters.specs.Digits.{goes_on}
-use Rattle.wh_letters.proofs.NamesAndNumbers.{ReadsNames, name_run, ReadsNumbers, number_run, is_digit_48, goes_on_48}
+use Rattle.wh_cert_letters.specs.Digits.{goes_on}
+use Rattle.wh_cert_letters.proofs.NamesAndNumbers.{ReadsNames, name_run, ReadsNumbers, number_run, is_digit_48, goes_on_48}
 use Rattle.wh_cert.specs.TermLimits.{term_count, TypeFits, TermFits, TermsFit, IsHead}
 use Rattle.wh_cert_parts.specs.TypeMachine.{TypeStack, outside, TypePlace, type_wanted, TypeStep, goes, type_ended, no_type, type_step}
 use Rattle.wh_cert_parts.specs.TermMachine.{Stack, base, in_head, in_spine, in_body, Typed, of_free, of_binder, Place, wanted, opened, head_opened, letters, dollar, percent, bound_number, free_number, slash, binder, binder_number, typing, closed, State, at, whole, failed, level, add_term, after, first_digit, typed, step}

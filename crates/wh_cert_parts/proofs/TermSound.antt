@@ -6,8 +6,8 @@ use Rattle.wh_text.specs.Chars.{is_digit, is_start, is_part}
 use Rattle.wh_text.specs.Words.{IsWord}
 use Rattle.wh_text.specs.RawTree.{numbered_binder, RTm, named, numbered, free_variable, lam, spine, RTms, none, more}
 use Rattle.wh_text.specs.Spelling.{put_part, put_term, put_parts}
-use Rattle.wh_letters.specs.Digits.{goes_on}
-use Rattle.wh_letters.proofs.NamesAndNumbers.{first_letter, next_letter, first_digit_spelled, first_digit_small, goes_on_true, next_digit_spelled}
+use Rattle.wh_cert_letters.specs.Digits.{goes_on}
+use Rattle.wh_cert_letters.proofs.NamesAndNumbers.{first_letter, next_letter, first_digit_spelled, first_digit_small, goes_on_true, next_digit_spelled}
 use Rattle.wh_cert.specs.TermLimits.{term_count, TypeFits, TermFits, TermsFit, IsHead}
 use Rattle.wh_cert_parts.specs.TypeMachine.{outside, type_wanted, TypeStep, goes, type_ended, no_type, type_step}
 use Rattle.wh_cert_parts.specs.TermMachine.{Stack, base, in_head, in_spine, in_body, Typed, of_free, of_binder, Place, wanted, opened, head_opened, letters, dollar, percent, bound_number, free_number, slash, binder, binder_number, typing, closed, State, at, whole, failed, level, add_term, after, begin, first_digit, typed, step}

@@ -6,7 +6,7 @@ use Rattle.wh_text.specs.Chars.{is_start, is_part}
 use Rattle.wh_text.specs.Words.{IsWord}
 use Rattle.wh_text.specs.RawTree.{RTy, raw_type, RTys, no_types, more_types}
 use Rattle.wh_text.specs.Spelling.{put_part, put_arguments}
-use Rattle.wh_letters.proofs.NamesAndNumbers.{ReadsNames, name_run, first_letter, next_letter}
+use Rattle.wh_cert_letters.proofs.NamesAndNumbers.{ReadsNames, name_run, first_letter, next_letter}
 use Rattle.wh_cert.specs.TermLimits.{type_count, TypeFits, ArgumentsFit}
 use Rattle.wh_cert_parts.specs.TypeMachine.{TypeStack, outside, inside, TypePlace, type_wanted, sort_name, dash, closed_type, TypeStep, goes, type_ended, no_type, type_level, has_room, has_types, add_type, name_ended, type_step}
 

@@ -4,7 +4,7 @@ use Rattle.std.specs.Prelude.{ℕ, suc, ◌+◌, ◌-◌, ◌*◌, ◌==◌, ◌
 use Rattle.wh_types.specs.Limits.{deepest_certificate_polynomial}
 use Rattle.wh_text.specs.Chars.{is_digit}
 use Rattle.wh_poly.specs.Polynomials.{Polynomial, zero_poly, plus, Factors, no_factors, times, Arguments, no_arguments, argument}
-use Rattle.wh_letters.specs.Digits.{goes_on, begins_big, goes_on_big}
+use Rattle.wh_cert_letters.specs.Digits.{goes_on, begins_big, goes_on_big}
 
 -- the open parentheses, the innermost first, each with the finished monomials, coefficient and finished factors of the
 -- monomial that it stands in, the number of its variable, and the arguments that have ended

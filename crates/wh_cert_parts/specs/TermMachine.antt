@@ -4,7 +4,7 @@ use Rattle.std.specs.Prelude.{ℕ, suc, ◌+◌, ◌-◌, ◌*◌, ◌==◌, ◌
 use Rattle.wh_types.specs.Limits.{longest_name, most_arguments, deepest_certificate_term}
 use Rattle.wh_text.specs.Chars.{line_feed, space, is_digit, is_start, is_part}
 use Rattle.wh_text.specs.RawTree.{RTy, numbered_binder, RTm, named, numbered, free_variable, lam, spine, RTms, none, more}
-use Rattle.wh_letters.specs.Digits.{goes_on}
+use Rattle.wh_cert_letters.specs.Digits.{goes_on}
 use Rattle.wh_cert.specs.TermLimits.{term_count}
 use Rattle.wh_cert_parts.specs.TypeMachine.{TypeStack, outside, TypePlace, type_wanted, TypeStep, goes, type_ended, no_type, type_step}
 

@@ -10,7 +10,7 @@ ghost use Rattle.wh_cert_parts.specs.declared.poly_reader.PolyPlace.TheVariants.
 
 use std::alloc::{AllocError, Global};
 use std::mem;
-use wh_letters::{first_big, first_number, next_big, next_number};
+use wh_cert_letters::{first_big, first_number, next_big, next_number};
 use wh_poly::{Atom, Atoms, Monomial, Poly, Polys};
 
 /// The parentheses of a polynomial nest that deep.

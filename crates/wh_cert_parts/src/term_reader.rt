@@ -16,7 +16,7 @@ use crate::raw::{abstraction, applied};
 use crate::type_reader::{TypePlace, TypeStep, type_step};
 use std::alloc::{AllocError, Global};
 use std::mem;
-use wh_letters::{Letters, begins_name, first_number, next_number};
+use wh_cert_letters::{Letters, begins_name, first_number, next_number};
 use wh_nesting::opens_in_certificate;
 use wh_text::{RawTerm, RawTerms, RawType, RawTypes};
 

@@ -9,7 +9,7 @@ ghost use Rattle.wh_cert_parts.specs.TypeViews.{type_stack, type_place, type_wen
 
 use crate::raw::{functional, sort};
 use std::alloc::{AllocError, Global};
-use wh_letters::{Letters, begins_name};
+use wh_cert_letters::{Letters, begins_name};
 use wh_text::{RawType, RawTypes};
 
 /// The arguments of a type are that many at most.

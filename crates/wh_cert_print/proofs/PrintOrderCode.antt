@@ -2,11 +2,11 @@
 use Rattle.std.proofs.Common.{◌≡◌, ℕ, ◌+◌, ◌<◌, ◌≤◌, List, [], ◌∷◌, ◌++◌, length, get_or, drop, map, codes, refl}
 use Rattle.wh_text.specs.Pushes.{Pushes}
 use Rattle.wh_text.proofs.PrintLemmas.{push_bytes, push_byte, push_then, Leaves}
-use Rattle.wh_inference.specs.Inferences as m
-use Rattle.wh_inference.specs.InferenceText.{put_inference}
-use Rattle.wh_inference.specs.FilterText.{put_filter}
-use Rattle.wh_inference.specs.Said.{inference}
-use Rattle.wh_inference.specs.declared.inference.Inference.{Inference}
+use Rattle.wh_order_inference.specs.Inferences as m
+use Rattle.wh_order_inference.specs.InferenceText.{put_inference}
+use Rattle.wh_order_inference.specs.FilterText.{put_filter}
+use Rattle.wh_order_inference.specs.Said.{inference}
+use Rattle.wh_order_inference.specs.declared.inference.Inference.{Inference}
 use Rattle.wh_cert_print.proofs.PrintedLists.{next_left, none_left}
 use Rattle.wh_cert.specs.Written.{Filtering, order}
 use Rattle.wh_cert.specs.Text.{put_filtering, put_filterings, put_shown, put_all_shown, put_line, put_node}

@@ -3,14 +3,14 @@
 
 ghost use Rattle.std.specs.Prelude.{map, OnOk};
 ghost use Rattle.wh_text.specs.Pushes.{Pushes};
-ghost use Rattle.wh_inference.specs.Said.{inference};
+ghost use Rattle.wh_order_inference.specs.Said.{inference};
 ghost use Rattle.wh_cert.specs.Text.{put_filtering, put_filterings, put_shown, put_all_shown};
 ghost use Rattle.wh_cert.specs.Said.{said_filter};
 
 use std::alloc::AllocError;
 use wh_cert::NamedFilter;
-use wh_inference::Inference;
-use wh_order_parts::{print_filter, print_inference};
+use wh_order_inference::Inference;
+use wh_order_text::{print_filter, print_inference};
 use wh_types::Bytes;
 
 /// Appends the line of each filter, behind this word.

@@ -24,7 +24,7 @@ use Rattle.wh_cert_text.specs.ReadViews.{wanted}
 use Rattle.wh_cert_text.specs.Handing.{TakesNo, TakesYes, handed_no, handed_yes, handed}
 use Rattle.wh_cert_text.specs.Feeding.{OnWant, ranks_of, IsPairsLine, Tracks, TracksYes, StopsAt, Stand, StandsFor, Refuses, Led, StageKept, HeadKnown, yes_ended, no_ended, has_ended}
 use Rattle.wh_cert_text.specs.ItemsRead.{ItemsIn}
-use Rattle.wh_letters.specs.declared.letters.Letters.{Letters}
+use Rattle.wh_cert_letters.specs.declared.letters.Letters.{Letters}
 use Rattle.wh_cert_machines.specs.declared.line_reader.NoLine.{NoLine}
 use Rattle.wh_cert_machines.specs.declared.line_reader.LinePlace.{LinePlace}
 use Rattle.wh_cert_machines.specs.declared.line_reader.LinePlace.TheVariants as no_place

@@ -3,7 +3,7 @@ use Rattle.std.proofs.Common.{◌≡◌, ℕ, zero, suc, Bool, true, false, cond
 use Rattle.std.specs.Option.{option_to_list}
 use Rattle.std.proofs.lemmas.List.{map_push}
 use Rattle.wh_text.specs.Chars.{is_digit, is_start, is_part}
-use Rattle.wh_letters.specs.Digits.{goes_on}
+use Rattle.wh_cert_letters.specs.Digits.{goes_on}
 use Rattle.wh_cert_parts.specs.TypeMachine.{TypeStep, goes, type_ended, no_type, type_step}
 use Rattle.wh_cert_parts.specs.TermMachine as t
 use Rattle.wh_cert.specs.Written.{Node}

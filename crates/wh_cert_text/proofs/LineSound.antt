@@ -8,8 +8,8 @@ use Rattle.wh_terms.specs.Places.{IsPath}
 use Rattle.wh_text.specs.Chars.{is_digit}
 use Rattle.wh_text.specs.RawTree.{RTy}
 use Rattle.wh_text.specs.Spelling.{put_part, put_term}
-use Rattle.wh_letters.specs.Digits.{goes_on}
-use Rattle.wh_letters.proofs.NamesAndNumbers.{first_digit_spelled, first_digit_small, goes_on_true, next_digit_spelled}
+use Rattle.wh_cert_letters.specs.Digits.{goes_on}
+use Rattle.wh_cert_letters.proofs.NamesAndNumbers.{first_digit_spelled, first_digit_small, goes_on_true, next_digit_spelled}
 use Rattle.wh_cert.specs.TermLimits.{TypeFits, TermFits}
 use Rattle.wh_cert_parts.specs.TypeMachine.{outside, type_wanted, TypeStep, goes, type_ended, no_type, type_step}
 use Rattle.wh_cert_parts.specs.TermMachine as m

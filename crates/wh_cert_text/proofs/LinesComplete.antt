@@ -7,8 +7,8 @@ use Rattle.std.specs.Fmt.{decimal}
 use Rattle.wh_poly.specs.Polynomials.{Polynomial}
 use Rattle.wh_hopoly.specs.declared.expression.Move as moved
 use Rattle.wh_text.specs.Chars.{is_digit, is_start, is_part}
-use Rattle.wh_letters.specs.Digits.{goes_on, begins_big, goes_on_big}
-use Rattle.wh_letters.proofs.NamesAndNumbers.{ReadsNames, name_run, ReadsNumbers, number_run, is_digit_48, goes_on_48}
+use Rattle.wh_cert_letters.specs.Digits.{goes_on, begins_big, goes_on_big}
+use Rattle.wh_cert_letters.proofs.NamesAndNumbers.{ReadsNames, name_run, ReadsNumbers, number_run, is_digit_48, goes_on_48}
 use Rattle.wh_cert.specs.PolyText.{put_poly}
 use Rattle.wh_cert_parts.specs.PolyMachine.{outside, poly_wanted, PolyStep, goes, poly_ended, no_poly, poly_step}
 use Rattle.wh_cert_parts.proofs.BigNumbers.{ReadsBigs, big_run, begins_big_48, goes_on_big_48}

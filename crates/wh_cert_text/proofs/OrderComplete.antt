@@ -1,8 +1,8 @@
 -- The reader of certificates reads each spelling of the lines of a node of a path order.
 use Rattle.std.proofs.Common.{◌≡◌, ℕ, List, [], ◌++◌, codes, refl}
 use Rattle.std.specs.List.{All}
-use Rattle.wh_inference.specs.Inferences.{Inference}
-use Rattle.wh_inference.specs.InferenceLimits.{InferenceFits}
+use Rattle.wh_order_inference.specs.Inferences.{Inference}
+use Rattle.wh_order_inference.specs.InferenceLimits.{InferenceFits}
 use Rattle.wh_cert.specs.Written.{Filtering}
 use Rattle.wh_cert.specs.Text.{put_filterings, put_all_shown}
 use Rattle.wh_cert.specs.Limits.{FilteringFits}

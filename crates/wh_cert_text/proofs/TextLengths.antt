@@ -3,9 +3,9 @@ use Rattle.std.proofs.Common.{ℕ, ◌≤◌, List, [], ◌∷◌, ◌++◌, len
 use Rattle.std.specs.Fmt.{decimal}
 use Rattle.std.proofs.lemmas.List.Elements.{All-nil, All-cons}
 use Rattle.wh_hopoly.specs.declared.expression.Move as moved
-use Rattle.wh_inference.specs.Inferences.{Inference, infer, Inferences, no_parts, more_parts}
-use Rattle.wh_inference.specs.InferenceText.{Form, alone as is_alone, with_parts, with_place, form, put_place, put_listed, put_inference, put_parts, put_more}
-use Rattle.wh_inference.specs.FilterText.{WrittenFilter, keeps, picks, put_places, put_filter}
+use Rattle.wh_order_inference.specs.Inferences.{Inference, infer, Inferences, no_parts, more_parts}
+use Rattle.wh_order_inference.specs.InferenceText.{Form, alone as is_alone, with_parts, with_place, form, put_place, put_listed, put_inference, put_parts, put_more}
+use Rattle.wh_order_inference.specs.FilterText.{WrittenFilter, keeps, picks, put_places, put_filter}
 use Rattle.wh_cert.specs.PolyText.{put_poly}
 use Rattle.wh_cert_parts.proofs.PolyTextLengths.{behind, behind_poly, long_poly, poly_within}
 use Rattle.wh_cert.specs.Interps.{Interp}

@@ -6,8 +6,8 @@ use Rattle.std.proofs.lemmas.List.Elements.{All-head, All-tail}
 use Rattle.std.specs.Fmt.{decimal}
 use Rattle.std.proofs.lemmas.Fmt.{decimal_digit}
 use Rattle.wh_text.specs.Chars.{is_digit, is_start, is_part}
-use Rattle.wh_letters.specs.Digits.{goes_on}
-use Rattle.wh_letters.proofs.NamesAndNumbers.{ReadsNames, name_run, ReadsNumbers, number_run, is_digit_48, goes_on_48}
+use Rattle.wh_cert_letters.specs.Digits.{goes_on}
+use Rattle.wh_cert_letters.proofs.NamesAndNumbers.{ReadsNames, name_run, ReadsNumbers, number_run, is_digit_48, goes_on_48}
 use Rattle.wh_cert.specs.TermLimits.{IsSmall}
 use Rattle.wh_cert.specs.Written.{Arg, Node, done, alone, blocks, subterm, interpretations, order, children, Preorder}
 use Rattle.wh_cert.specs.Text.{put_numbers, put_blocks, put_arg, put_args, put_node, put_nodes, put_interps, put_covers, put_filterings, put_all_shown}

@@ -7,11 +7,11 @@ use Rattle.std.proofs.lemmas.List.Elements.{All-nil, All-push, All-weaker}
 use Rattle.wh_poly.specs.Polynomials.{zero_poly}
 use Rattle.wh_hopoly.specs.declared.expression.Move as moved
 use Rattle.wh_text.specs.Words.{IsWord}
-use Rattle.wh_letters.proofs.NamesAndNumbers.{first_letter}
+use Rattle.wh_cert_letters.proofs.NamesAndNumbers.{first_letter}
 use Rattle.wh_cert_parts.specs.PolyMachine.{goes}
 use Rattle.wh_cert_parts.proofs.PolyLaws.{poly_seen, poly_sound}
 use Rattle.wh_cert_parts.proofs.PolyRuns.{poly_ends}
-use Rattle.wh_inference.specs.Inferences.{Inference}
+use Rattle.wh_order_inference.specs.Inferences.{Inference}
 use Rattle.wh_cert.specs.Interps.{Interp}
 use Rattle.wh_cert.specs.Limits.{InterpFits, MoveFits, UsableWithin, NodeWithin}
 use Rattle.wh_cert_lines.specs.PolyLines.{Lines, in_funs, in_marks, in_rules, in_pairs, LinesPlace, lines_front, name_wanted, name as line_name, in_poly, moves, from_wanted, from, to_wanted, to, amount_wanted, amount, line_begun, add_named, add_shown, add_move}

@@ -5,8 +5,8 @@ use Rattle.std.proofs.lemmas.Bool.{ltb-true, lt-ltb}
 use Rattle.std.proofs.lemmas.List.Elements.{All-nil, All-push, All-weaker}
 use Rattle.std.specs.Fmt.{decimal}
 use Rattle.wh_hopoly.specs.declared.expression.Move as moved
-use Rattle.wh_inference.specs.Inferences.{Inference, entries}
-use Rattle.wh_inference.specs.FilterText.{WrittenFilter, keeps, picks}
+use Rattle.wh_order_inference.specs.Inferences.{Inference, entries}
+use Rattle.wh_order_inference.specs.FilterText.{WrittenFilter, keeps, picks}
 use Rattle.wh_cert.specs.TermLimits.{IsSmall}
 use Rattle.wh_cert.specs.Written.{Filtering, Node, done, alone, blocks, subterm, interpretations, order, children, Preorder, yes}
 use Rattle.wh_cert.specs.Text.{put_numbers, put_nodes, text}

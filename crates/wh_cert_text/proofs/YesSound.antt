@@ -8,9 +8,9 @@ use Rattle.std.specs.Fmt.{decimal}
 use Rattle.std.proofs.lemmas.Fmt.{decimal_digit}
 use Rattle.wh_text.specs.Chars.{is_digit, is_start, is_part}
 use Rattle.wh_text.specs.Words.{IsWord}
-use Rattle.wh_letters.specs.Digits.{goes_on}
-use Rattle.wh_letters.proofs.NamesAndNumbers.{first_letter, next_letter, first_digit_spelled, first_digit_small, goes_on_true, next_digit_spelled}
-use Rattle.wh_inference.specs.Inferences.{Inference}
+use Rattle.wh_cert_letters.specs.Digits.{goes_on}
+use Rattle.wh_cert_letters.proofs.NamesAndNumbers.{first_letter, next_letter, first_digit_spelled, first_digit_small, goes_on_true, next_digit_spelled}
+use Rattle.wh_order_inference.specs.Inferences.{Inference}
 use Rattle.wh_cert.specs.TermLimits.{IsSmall}
 use Rattle.wh_hopoly.specs.declared.expression.Move as moved
 use Rattle.wh_cert.specs.Interps.{Interp}

@@ -5,7 +5,7 @@ use Rattle.wh_pairs.specs.PairData.{PairData}
 use Rattle.wh_system.specs.WellMade.{IsWellMadeSystem}
 use Rattle.wh_pairs.specs.SystemPairs.{HasPairs}
 use Rattle.wh_cert.specs.Written as w
-use Rattle.wh_nodes.proofs.SystemLaws.{proved_systems_end}
+use Rattle.wh_proof_nodes.proofs.SystemLaws.{proved_systems_end}
 use Rattle.wh_checker.specs.Accepted.{AreBounded}
 use Rattle.wh_proof.specs.Valid.{IsValidYes}
 

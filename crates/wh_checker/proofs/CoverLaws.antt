@@ -11,10 +11,10 @@ use Rattle.wh_polycheck.specs.CoverFaults.{AreGood, IsFirstBad, IsOverSpent, IsF
 use Rattle.wh_polycheck.specs.declared.fault.CoverFault.{CoverFault}
 use Rattle.wh_polycheck.specs.declared.fault.CoverFault.TheVariants.{BadMove, OverSpent, NotCovered, NotStrict}
 use Rattle.wh_polycheck.specs.Covering.{CoversSides}
-use Rattle.wh_covering.specs.CoveringFaults.{RunExceeds, IsFirstFaultOfMoves, IsFirstLineFault, IsRightLine}
+use Rattle.wh_poly_covering.specs.CoveringFaults.{RunExceeds, IsFirstFaultOfMoves, IsFirstLineFault, IsRightLine}
 use Rattle.wh_polycheck.specs.Small.{Limits, without_limits, with_limits, StaysWithin}
-use Rattle.wh_covering.specs.declared.fault.LineFault.{LineFault}
-use Rattle.wh_covering.specs.declared.fault.LineFault.TheVariants as line
+use Rattle.wh_poly_covering.specs.declared.fault.LineFault.{LineFault}
+use Rattle.wh_poly_covering.specs.declared.fault.LineFault.TheVariants as line
 use Rattle.wh_usable.proofs.Decisions.{neither_below}
 
 -- moves

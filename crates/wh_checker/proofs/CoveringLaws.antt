@@ -4,9 +4,9 @@ use Rattle.std.proofs.Common.{◌≡◌, ℕ, ◌⊎◌, inl, inr, Bool, true, f
 use Rattle.wh_terms.specs.Rules.{RewriteRule}
 use Rattle.wh_pairs.specs.PairData.{PairData}
 use Rattle.wh_pairs.proofs.ByPlace.{contains_at, some_one}
-use Rattle.wh_reduction.specs.TaskData.{TaskData}
-use Rattle.wh_reduction.specs.ReductionPair.{Evidence, IsRightRule, IsRightPair}
-use Rattle.wh_reduction.proofs.Lines.{rule_or_not, pair_or_not, first_rule_one, first_pair_one, counted_of, counted_not_bad}
+use Rattle.wh_reduction_pairs.specs.TaskData.{TaskData}
+use Rattle.wh_reduction_pairs.specs.ReductionPair.{Evidence, IsRightRule, IsRightPair}
+use Rattle.wh_reduction_pairs.proofs.Lines.{rule_or_not, pair_or_not, first_rule_one, first_pair_one, counted_of, counted_not_bad}
 use Rattle.wh_hopoly.specs.Evaluation.{NormalInterpretations}
 use Rattle.wh_poly.specs.Polynomials.{Normal}
 use Rattle.wh_hopoly.specs.Moves.{Transfer}
@@ -16,13 +16,13 @@ use Rattle.wh_polycheck.specs.Marks.{Mark, marked_types, AreNormalMarks}
 use Rattle.wh_polycheck.specs.Readings.{ReadingsData}
 use Rattle.wh_polycheck.specs.Covering.{rule_run, pair_run, by_moves, IsCovering}
 use Rattle.wh_polycheck.specs.Small.{Limits, without_limits, with_limits, StaysWithin, IsSmall}
-use Rattle.wh_covering.specs.CoveringFaults.{IsFirstLineFault, IsRightLine, IsFirstNotNormal, IsFirstNotNormalMark, IsFirstWrongRule, IsFirstWrongPair, IsFirstCoveringFault, right_lines, wrong_lines}
+use Rattle.wh_poly_covering.specs.CoveringFaults.{IsFirstLineFault, IsRightLine, IsFirstNotNormal, IsFirstNotNormalMark, IsFirstWrongRule, IsFirstWrongPair, IsFirstCoveringFault, right_lines, wrong_lines}
 use Rattle.wh_usable.specs.Closed.{IsClosed}
 use Rattle.wh_usable.proofs.Decisions.{closed_not_open, one_open, neither_below}
-use Rattle.wh_covering.specs.declared.fault.CoveringFault.{CoveringFault}
-use Rattle.wh_covering.specs.declared.fault.CoveringFault.TheVariants.{BadPolynomial, BadLines, BadDrop, NotClosed, Rule, Pair}
-use Rattle.wh_covering.specs.declared.fault.LineFault.{LineFault}
-use Rattle.wh_covering.specs.declared.fault.LineFault.TheVariants as line
+use Rattle.wh_poly_covering.specs.declared.fault.CoveringFault.{CoveringFault}
+use Rattle.wh_poly_covering.specs.declared.fault.CoveringFault.TheVariants.{BadPolynomial, BadLines, BadDrop, NotClosed, Rule, Pair}
+use Rattle.wh_poly_covering.specs.declared.fault.LineFault.{LineFault}
+use Rattle.wh_poly_covering.specs.declared.fault.LineFault.TheVariants as line
 use Rattle.wh_checker.specs.Faults.{in_excess, at_covering}
 use Rattle.wh_checker.specs.declared.rejected.CheckFault.{CheckFault}
 use Rattle.wh_checker.specs.declared.rejected.CheckFault.TheVariants as check

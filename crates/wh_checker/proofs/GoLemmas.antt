@@ -20,14 +20,14 @@ use Rattle.wh_subterm.specs.declared.projection.SubtermFault.{SubtermFault}
 use Rattle.wh_subterm.specs.declared.projection.SubtermFault.TheVariants.{BadArgs, NoProjection, BadArgument, BadDrop, NotDecreasing}
 use Rattle.wh_cert.specs.Written as w
 use Rattle.wh_cert.specs.Interps.{Interp}
-use Rattle.wh_reduction.specs.TaskData.{numbers_from, task_over, whole_task}
+use Rattle.wh_reduction_pairs.specs.TaskData.{numbers_from, task_over, whole_task}
 use Rattle.wh_hopoly.specs.declared.expression.Move.{Move}
 use Rattle.wh_polycheck.specs.Readings.{ReadingsData}
 use Rattle.wh_polycheck.specs.Covering.{IsCovering, HaveTypedSides, IsTypedTask}
 use Rattle.wh_polycheck.specs.Small.{IsSmall}
-use Rattle.wh_inference.specs.Inferences.{Inference}
-use Rattle.wh_ordering.specs.Filterings.{FilteringData}
-use Rattle.wh_ordering.specs.Ordering.{IsOrdering}
+use Rattle.wh_order_inference.specs.Inferences.{Inference}
+use Rattle.wh_order_node.specs.Filterings.{FilteringData}
+use Rattle.wh_order_node.specs.Ordering.{IsOrdering}
 use Rattle.wh_usable.specs.Closed.{IsClosed}
 use Rattle.wh_proof.specs.Nodes.{done, alone, blocks, subterm, poly, order, AreSetsOf, Leaves, by_done, by_alone, by_blocks, by_subterm, by_poly, by_order}
 use Rattle.wh_pairs.specs.Sets.{IsSetOf, IsKept}

@@ -28,10 +28,10 @@ use Rattle.wh_polycheck.specs.Marks.{Mark}
 use Rattle.wh_polycheck.specs.declared.fault.CoverFault.TheVariants as moves
 use Rattle.wh_polycheck.specs.Small.{Limits}
 use Rattle.wh_usable.specs.declared.closed.NotClosed.TheVariants as not_closed
-use Rattle.wh_covering.specs.declared.fault.CoveringFault.TheVariants as covered
-use Rattle.wh_covering.specs.declared.fault.LineFault.TheVariants as line
-use Rattle.wh_ordering.specs.Filterings.{MarkFilter}
-use Rattle.wh_orienting.specs.declared.fault.OrderingFault.TheVariants as ordered
+use Rattle.wh_poly_covering.specs.declared.fault.CoveringFault.TheVariants as covered
+use Rattle.wh_poly_covering.specs.declared.fault.LineFault.TheVariants as line
+use Rattle.wh_order_node.specs.Filterings.{MarkFilter}
+use Rattle.wh_order_check.specs.declared.fault.OrderingFault.TheVariants as ordered
 use Rattle.wh_proof.specs.Looked.{SayChoices, SayInterpretations, SayMarks, SayMarkFilters}
 use Rattle.wh_proof.proofs.FilterLemmas.{as_many_filters}
 use Rattle.wh_checker.specs.Faults.{IsNodeFault, IsFirstNodeFault, at_first, behind_first, at_node, in_excess, of_claim, IsFirstYesFault, rank_count, inaccessible, pair_count, in_node, IsFirstFault}

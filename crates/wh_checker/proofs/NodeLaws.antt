@@ -15,22 +15,22 @@ use Rattle.wh_subterm.specs.declared.projection.SubtermFault.{SubtermFault}
 use Rattle.wh_subterm.specs.declared.projection.SubtermFault.TheVariants as projected
 use Rattle.wh_cert.specs.Written as w
 use Rattle.wh_cert.specs.Interps.{Interp}
-use Rattle.wh_reduction.specs.TaskData.{task_over, whole_task}
-use Rattle.wh_reduction.specs.ReductionPair.{Evidence}
+use Rattle.wh_reduction_pairs.specs.TaskData.{task_over, whole_task}
+use Rattle.wh_reduction_pairs.specs.ReductionPair.{Evidence}
 use Rattle.wh_hopoly.specs.Moves.{Transfer}
 use Rattle.wh_poly.specs.declared.excess.Excess.{Excess}
 use Rattle.wh_hopoly.specs.declared.expression.Move.{Move}
 use Rattle.wh_polycheck.specs.Readings.{ReadingsData}
 use Rattle.wh_polycheck.specs.Covering.{IsCovering}
-use Rattle.wh_covering.specs.CoveringFaults.{IsFirstCoveringFault}
+use Rattle.wh_poly_covering.specs.CoveringFaults.{IsFirstCoveringFault}
 use Rattle.wh_polycheck.specs.Small.{Limits, without_limits, with_limits}
-use Rattle.wh_covering.specs.declared.fault.CoveringFault.{CoveringFault}
-use Rattle.wh_inference.specs.Inferences.{Inference}
-use Rattle.wh_ordering.specs.Filterings.{FilteringData}
-use Rattle.wh_ordering.specs.Ordering.{IsOrdering}
-use Rattle.wh_orienting.specs.OrderingFaults.{IsFirstOrderingFault}
-use Rattle.wh_orienting.specs.declared.fault.OrderingFault.{OrderingFault}
-use Rattle.wh_orienting.proofs.OneOrdering.{ordering_fault_one, ordering_or_fault}
+use Rattle.wh_poly_covering.specs.declared.fault.CoveringFault.{CoveringFault}
+use Rattle.wh_order_inference.specs.Inferences.{Inference}
+use Rattle.wh_order_node.specs.Filterings.{FilteringData}
+use Rattle.wh_order_node.specs.Ordering.{IsOrdering}
+use Rattle.wh_order_check.specs.OrderingFaults.{IsFirstOrderingFault}
+use Rattle.wh_order_check.specs.declared.fault.OrderingFault.{OrderingFault}
+use Rattle.wh_order_check.proofs.OneOrdering.{ordering_fault_one, ordering_or_fault}
 use Rattle.wh_usable.specs.Closed.{AreRulesInOrder, IsUsable}
 use Rattle.wh_proof.specs.Nodes.{Node, done, alone, blocks, subterm, poly, order, AreSetsOf, no_sets, more_sets, Leaves, by_done, by_alone, by_blocks, by_subterm, by_poly, by_order}
 use Rattle.wh_proof.specs.Looked.{SayChoices, SaysNode, CoversRules, poly_task, moves_of, inferences_of}

@@ -3,7 +3,7 @@ use Rattle.std.proofs.Common.{◌≡◌, ℕ, suc, ◌+◌, ◌⊎◌, inl, inr,
 use Rattle.std.proofs.lemmas.List.{length-append}
 use Rattle.wh_terms.specs.declared.path.Step as taken
 use Rattle.wh_text.specs.RawTree.{RTm}
-use Rattle.wh_laws.specs.Ranks.{rank_of}
+use Rattle.wh_step_laws.specs.Ranks.{rank_of}
 use Rattle.wh_system.specs.Systems.{SystemData}
 use Rattle.wh_system.specs.WellMade.{AreDistinct, IsWellMadeSystem}
 use Rattle.wh_pairs.specs.PairData.{PairData}
@@ -22,21 +22,21 @@ use Rattle.wh_cert.specs.Interps.{Interp}
 use Rattle.wh_types.specs.Ty.{Ty}
 use Rattle.wh_pairs.specs.Marked.{AreMarked}
 use Rattle.wh_pairs.specs.Sets.{IsWhole}
-use Rattle.wh_reduction.specs.TaskData.{TaskData, whole_task}
-use Rattle.wh_reduction.specs.ReductionPair.{Evidence}
+use Rattle.wh_reduction_pairs.specs.TaskData.{TaskData, whole_task}
+use Rattle.wh_reduction_pairs.specs.ReductionPair.{Evidence}
 use Rattle.wh_hopoly.specs.Evaluation.{Interpretation}
 use Rattle.wh_hopoly.specs.declared.expression.Move.{Move}
 use Rattle.wh_polycheck.specs.Marks.{Mark}
 use Rattle.wh_polycheck.specs.Readings.{ReadingsData, AreReadingsFor}
 use Rattle.wh_polycheck.specs.Covering.{IsCovering}
 use Rattle.wh_hopoly.specs.Moves.{Transfer}
-use Rattle.wh_inference.specs.Inferences.{Inference}
-use Rattle.wh_inference.specs.FilterText.{WrittenFilter}
-use Rattle.wh_ordering.specs.Filterings.{FilteringData, MarkFilter}
-use Rattle.wh_ordering.specs.Ordering.{IsOrdering}
-use Rattle.wh_orienting.specs.OrderingFaults.{IsFirstOrderingFault}
-use Rattle.wh_orienting.specs.declared.fault.OrderingFault.{OrderingFault}
-use Rattle.wh_orienting.proofs.Orderings.{orients_or_fault}
+use Rattle.wh_order_inference.specs.Inferences.{Inference}
+use Rattle.wh_order_inference.specs.FilterText.{WrittenFilter}
+use Rattle.wh_order_node.specs.Filterings.{FilteringData, MarkFilter}
+use Rattle.wh_order_node.specs.Ordering.{IsOrdering}
+use Rattle.wh_order_check.specs.OrderingFaults.{IsFirstOrderingFault}
+use Rattle.wh_order_check.specs.declared.fault.OrderingFault.{OrderingFault}
+use Rattle.wh_order_check.proofs.Orderings.{orients_or_fault}
 use Rattle.wh_proof.specs.Nodes.{Node, done, alone, blocks, subterm, poly, order, Leaves, by_done, by_alone, by_blocks, by_subterm, by_poly, by_order}
 use Rattle.wh_proof.specs.Proves.{Proves, all_proved, one_proved}
 use Rattle.wh_pairs.proofs.Searches.{SomeOrNone, equal_decided, list_decided, HasFirst, HasNoneOf, first_place}
@@ -45,9 +45,9 @@ use Rattle.wh_graph.proofs.BlockFaults.{BlocksOrFault, blocks_or_fault}
 use Rattle.wh_subterm.proofs.Projections.{ProjectionOrFault, projection_or_fault, are_marked_decided}
 use Rattle.wh_usable.specs.Closed.{IsClosed}
 use Rattle.wh_usable.proofs.Decisions.{in_order_decided}
-use Rattle.wh_covering.specs.CoveringFaults.{IsFirstCoveringFault}
-use Rattle.wh_covering.specs.declared.fault.CoveringFault.{CoveringFault}
-use Rattle.wh_covering.proofs.Coverings.{covering_or_fault, small_or_fault}
+use Rattle.wh_poly_covering.specs.CoveringFaults.{IsFirstCoveringFault}
+use Rattle.wh_poly_covering.specs.declared.fault.CoveringFault.{CoveringFault}
+use Rattle.wh_poly_covering.proofs.Coverings.{covering_or_fault, small_or_fault}
 use Rattle.wh_access.proofs.Breaks.{passing_or_break}
 use Rattle.wh_no.proofs.Claims.{ClaimOrFault, claim_or_fault}
 use Rattle.wh_polycheck.specs.Small.{Limits, without_limits, with_limits}

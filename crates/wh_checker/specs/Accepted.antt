@@ -4,7 +4,7 @@ use Rattle.wh_terms.specs.Tree.{Tm}
 use Rattle.wh_terms.specs.Typing.{WellTyped}
 use Rattle.wh_step.specs.Reduction.{Bounded, Unbounded}
 use Rattle.wh_system.specs.Systems.{SystemData}
-use Rattle.wh_making.specs.Resolve.{Means}
+use Rattle.wh_system_making.specs.Resolve.{Means}
 use Rattle.wh_pairs.specs.PairData.{PairData}
 use Rattle.wh_cert.specs.Written.{Cert, yes, no}
 use Rattle.wh_no.specs.Faults as claims

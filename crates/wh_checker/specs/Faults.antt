@@ -13,25 +13,25 @@ use Rattle.wh_subterm.specs.declared.projection.SubtermFault.TheVariants as proj
 use Rattle.wh_cert.specs.Written as w
 use Rattle.wh_cert.specs.Written.{Cert, yes, no}
 use Rattle.wh_cert.specs.Interps.{Interp}
-use Rattle.wh_ordering.specs.Filterings.{FilteringData}
-use Rattle.wh_orienting.specs.OrderingFaults.{IsFirstOrderingFault}
-use Rattle.wh_orienting.specs.declared.fault.OrderingFault.{OrderingFault}
-use Rattle.wh_orienting.specs.declared.fault.OrderingFault.TheVariants as ordered
+use Rattle.wh_order_node.specs.Filterings.{FilteringData}
+use Rattle.wh_order_check.specs.OrderingFaults.{IsFirstOrderingFault}
+use Rattle.wh_order_check.specs.declared.fault.OrderingFault.{OrderingFault}
+use Rattle.wh_order_check.specs.declared.fault.OrderingFault.TheVariants as ordered
 use Rattle.wh_no.specs.Faults as claims
 use Rattle.wh_no.specs.declared.fault.NoFault.{NoFault}
 use Rattle.wh_no.specs.declared.fault.NoFault.TheVariants as refuted
-use Rattle.wh_reduction.specs.TaskData.{whole_task}
+use Rattle.wh_reduction_pairs.specs.TaskData.{whole_task}
 use Rattle.wh_poly.specs.declared.excess.Excess.{Excess}
 use Rattle.wh_poly.specs.declared.excess.Excess.TheVariants as excess
 use Rattle.wh_polycheck.specs.Readings.{ReadingsData}
 use Rattle.wh_polycheck.specs.declared.fault.CoverFault.{CoverFault}
 use Rattle.wh_polycheck.specs.declared.fault.CoverFault.TheVariants as moves
 use Rattle.wh_pairs.specs.Marked.{AreMarked}
-use Rattle.wh_covering.specs.CoveringFaults.{IsFirstCoveringFault}
+use Rattle.wh_poly_covering.specs.CoveringFaults.{IsFirstCoveringFault}
 use Rattle.wh_polycheck.specs.Small.{Limits}
-use Rattle.wh_covering.specs.declared.fault.CoveringFault.{CoveringFault}
-use Rattle.wh_covering.specs.declared.fault.CoveringFault.TheVariants as covered
-use Rattle.wh_covering.specs.declared.fault.LineFault.TheVariants as line
+use Rattle.wh_poly_covering.specs.declared.fault.CoveringFault.{CoveringFault}
+use Rattle.wh_poly_covering.specs.declared.fault.CoveringFault.TheVariants as covered
+use Rattle.wh_poly_covering.specs.declared.fault.LineFault.TheVariants as line
 use Rattle.wh_usable.specs.declared.closed.NotClosed.{NotClosed}
 use Rattle.wh_usable.specs.declared.closed.NotClosed.TheVariants as not_closed
 use Rattle.wh_proof.specs.Nodes.{Node, Leaves}

@@ -3,12 +3,12 @@
 ghost use Rattle.std.specs.Prelude.{◌≡◌};
 ghost use Rattle.wh_checker.specs.Faults.{at_covering, at_node, at_open, at_ordering, at_pair, at_rule, in_excess, of_claim};
 ghost use Rattle.wh_checker.specs.declared.rejected.NodeFault.TheVariants.{Blocks, Subterm};
-ghost use Rattle.wh_covering.specs.declared.fault.CoveringFault.TheVariants.{Pair, Rule};
+ghost use Rattle.wh_poly_covering.specs.declared.fault.CoveringFault.TheVariants.{Pair, Rule};
 
-use wh_covering::{CoveringFault, LineFault};
+use wh_poly_covering::{CoveringFault, LineFault};
 use wh_graph::BlockFault;
 use wh_no::NoFault;
-use wh_orienting::OrderingFault;
+use wh_order_check::OrderingFault;
 use wh_poly::Excess;
 use wh_polycheck::CoverFault;
 use wh_subterm::SubtermFault;

@@ -9,7 +9,7 @@ ghost use Rattle.wh_cert.specs.Said.{said_node};
 ghost use Rattle.wh_cert.specs.Written as w;
 ghost use Rattle.wh_cert.specs.Written.{Preorder};
 ghost use Rattle.wh_polycheck.specs.Covering.{HaveTypedSides};
-ghost use Rattle.wh_numbered.specs.Numberings.{IsNumberingSoFar};
+ghost use Rattle.wh_intern_pairs.specs.Numberings.{IsNumberingSoFar};
 ghost use Rattle.wh_checker.specs.Walk.{HasCome, IsFaultInNodes};
 ghost use Rattle.wh_proof.specs.GoesOn.{AreProvedBy};
 
@@ -17,7 +17,7 @@ use crate::node::check_node;
 use crate::rejected::CheckFault;
 use std::alloc::Global;
 use wh_cert::Node;
-use wh_numbered::Numbered;
+use wh_intern_pairs::Numbered;
 use wh_pairs::{PairList, PairSet};
 use wh_system::System;
 use wh_types::Or;

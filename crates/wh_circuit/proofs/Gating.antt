@@ -9,7 +9,7 @@ use Rattle.wh_sat_trail.specs.Assignment.{AllBelow, negated}
 use Rattle.wh_sat_trail.specs.Propagation.{Within}
 use Rattle.wh_circuit.specs.Values.{all_true}
 use Rattle.wh_circuit.specs.declared.circuit.Gate.{Gate}
-use Rattle.wh_gate_clauses.specs.Clauses.{gate_clauses, no, shorts, yes}
+use Rattle.wh_circuit_gates.specs.Clauses.{gate_clauses, no, shorts, yes}
 use Rattle.wh_circuit.specs.Gates.{Agrees, Extends, IsAlwaysTrue, Ordered}
 use Rattle.wh_circuit.proofs.Solving.{negated_below}
 

@@ -6,7 +6,7 @@ use Rattle.wh_sat_trail.specs.declared.literal.Literal.{Literal}
 use Rattle.wh_sat_trail.specs.Assignment.{AllBelow, negated}
 use Rattle.wh_sat.specs.Solving.{literal_true, clause_true, Solves}
 use Rattle.wh_circuit.specs.Values.{all_true}
-use Rattle.wh_gate_clauses.specs.Clauses.{yes, no, shorts, gate_clauses}
+use Rattle.wh_circuit_gates.specs.Clauses.{yes, no, shorts, gate_clauses}
 
 pub cases_bool : (b : Bool) → (b ≡ true) ⊎ (b ≡ false)
 cases_bool true = inl refl

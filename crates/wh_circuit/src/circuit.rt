@@ -16,7 +16,7 @@ ghost use Rattle.wh_sat_trail.specs.Propagation.{Within};
 
 pub use mark::Mark;
 use std::alloc::Global;
-use wh_gate_clauses::Wire;
+use wh_circuit_gates::Wire;
 use wh_sat_trail::{Clause, Formula};
 
 /// What a variable is: an input, or true exactly where all of some wires are.

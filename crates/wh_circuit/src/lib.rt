@@ -6,4 +6,4 @@ mod laws;
 
 pub use circuit::{Circuit, Gate, Mark};
 pub use laws::{values_are_unique, values_exist};
-pub use wh_gate_clauses::{Wire, Wires};
+pub use wh_circuit_gates::{Wire, Wires};

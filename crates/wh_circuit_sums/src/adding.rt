@@ -10,7 +10,7 @@ ghost use Rattle.wh_sat.specs.Solving.{literal_true};
 use crate::digit::Digit;
 use std::alloc::{AllocError, Global};
 use wh_circuit::Circuit;
-use wh_gate_clauses::{Wire, Wires};
+use wh_circuit_gates::{Wire, Wires};
 
 /// The bits of the sum of two numbers, one more than the longer has. At most nine variables join for each bit of the
 /// longer, and one more.

@@ -1,6 +1,6 @@
 //! Counts up to two.
 
-use wh_gate_clauses::Wire;
+use wh_circuit_gates::Wire;
 
 /// How many of some wires are true, as far as two.
 #[derive(Clone, Copy)]

@@ -10,7 +10,7 @@ ghost use Rattle.wh_sat.specs.Solving.{literal_true};
 use crate::count::Count;
 use std::alloc::AllocError;
 use wh_circuit::Circuit;
-use wh_gate_clauses::Wire;
+use wh_circuit_gates::Wire;
 
 /// True exactly where one of the wires is, and no other; of none it is false. At most three variables join for each
 /// wire, and two more.

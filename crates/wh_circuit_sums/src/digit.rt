@@ -1,6 +1,6 @@
 //! Sums of three bits.
 
-use wh_gate_clauses::Wire;
+use wh_circuit_gates::Wire;
 
 /// The two bits of a sum.
 #[derive(Clone, Copy)]

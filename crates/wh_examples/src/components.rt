@@ -5,7 +5,7 @@ ghost use Rattle.std.specs.Prelude.{◌<◌, All, IfOk, length};
 
 use crate::SYSTEM_LIMIT;
 use std::alloc::{AllocError, Global};
-use wh_find_pairs::pairs;
+use wh_pairs_making::pairs;
 use wh_graph::components;
 use wh_pairs::{PairList, PairSet};
 use wh_read::read_system;

@@ -21,17 +21,17 @@ use Rattle.wh_checker.specs.declared.rejected.Rejected.TheVariants as row
 use Rattle.wh_answer.specs.declared.report.Report.{Report}
 use Rattle.wh_answer.specs.declared.report.Report.TheVariants as answer
 use Rattle.wh_answer.specs.declared.report.NamedRejection.TheVariants.{Syntax}
-use Rattle.wh_verdict.specs.declared.verdict.Verdict.{Verdict}
-use Rattle.wh_verdict.specs.declared.verdict.Verdict.TheVariants.{Proof, Loop, Rejected, Overflow, TooLarge, Open}
-use Rattle.wh_verdict.specs.FirstWords.{first_words, verdict_of}
-use Rattle.wh_judging.specs.Outcomes.{BeginsWith, IsSystemIn, Judged, Shelves, StandsBySystem, Told, Weighed}
-use Rattle.wh_judging.specs.Unread.{CertificateFault}
+use Rattle.wh_explain_verdict.specs.declared.verdict.Verdict.{Verdict}
+use Rattle.wh_explain_verdict.specs.declared.verdict.Verdict.TheVariants.{Proof, Loop, Rejected, Overflow, TooLarge, Open}
+use Rattle.wh_explain_verdict.specs.FirstWords.{first_words, verdict_of}
+use Rattle.wh_top_judging.specs.Outcomes.{BeginsWith, IsSystemIn, Judged, Shelves, StandsBySystem, Told, Weighed}
+use Rattle.wh_top_judging.specs.Unread.{CertificateFault}
 use Rattle.wh_types.specs.Outcome.{IfBecause, MatchOr}
 use Rattle.wh_types.specs.declared.want.Or.{Or}
 use Rattle.wh_types.specs.declared.want.Or.TheVariants.{NoMemory, Because}
-use Rattle.wh_naming.specs.Rows.{named_row}
+use Rattle.wh_top_naming.specs.Rows.{named_row}
 use Rattle.wh_explain.specs.Meaning.{Finds, IsUnweighed, Means, MeansLoop, MeansProof, SaysOf, SaysOfBytes, SomeIsUnbounded}
-use Rattle.wh_judging.proofs.Streaming.{never_syntax}
+use Rattle.wh_top_judging.proofs.Streaming.{never_syntax}
 
 -- what a verdict means of a system
 abbrev pub MeantBy : SystemData → Verdict → Type 0

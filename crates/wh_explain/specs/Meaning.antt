@@ -10,9 +10,9 @@ use Rattle.wh_cert.specs.Limits.{IsCert}
 use Rattle.wh_checker.specs.Accepted.{AreBounded}
 use Rattle.wh_answer.specs.declared.report.Report.{Report}
 use Rattle.wh_answer.specs.declared.report.Report.TheVariants.{Yes, No, Rejected, Overflow, TooLarge}
-use Rattle.wh_verdict.specs.declared.verdict.Verdict.TheVariants.{Open}
-use Rattle.wh_verdict.specs.FirstWords.{first_words, verdict_of}
-use Rattle.wh_judging.specs.Outcomes.{BeginsWith, Judged, Shelves, Stands, StandsBySystem, ToldSystem, Weighed}
+use Rattle.wh_explain_verdict.specs.declared.verdict.Verdict.TheVariants.{Open}
+use Rattle.wh_explain_verdict.specs.FirstWords.{first_words, verdict_of}
+use Rattle.wh_top_judging.specs.Outcomes.{BeginsWith, Judged, Shelves, Stands, StandsBySystem, ToldSystem, Weighed}
 
 -- the text begins with the words for this answer of the check
 abbrev pub Says : Report → List ℕ → Type 0

@@ -8,7 +8,7 @@ ghost use Rattle.wh_pairs.specs.Views.{pairs_data};
 use crate::guessed::put_best_guess;
 use std::alloc::{AllocError, Global};
 use wh_access::NoRanks;
-use wh_judging::Problem;
+use wh_top_judging::Problem;
 use wh_pairs::PairSet;
 use wh_prover::{Answer, Cause, Finder, Options, prove};
 use wh_tell::Piece::{Named, Number, Unknown};

@@ -9,8 +9,8 @@ ghost use Rattle.wh_pairs.specs.SystemPairs.{HasPairs};
 ghost use Rattle.wh_pairs.specs.Views.{pairs_data};
 ghost use Rattle.wh_cert.specs.Limits.{IsCert};
 ghost use Rattle.wh_cert.specs.Said.{said};
-ghost use Rattle.wh_verdict.specs.FirstWords.{first_words};
-ghost use Rattle.wh_judging.specs.Outcomes.{BeginsWith, Stands, StandsBySystem, Told, ToldSystem, outside};
+ghost use Rattle.wh_explain_verdict.specs.FirstWords.{first_words};
+ghost use Rattle.wh_top_judging.specs.Outcomes.{BeginsWith, Stands, StandsBySystem, Told, ToldSystem, outside};
 ghost use Rattle.wh_explain.specs.Meaning.{Explains, Finds, IsUnexplained, IsUnweighed, Means, MeansLoop, MeansProof, SaysOf, SaysOfBytes, SaysOfFiles};
 
 use crate::causes::put_cause;
@@ -20,7 +20,7 @@ use wh_cert::Certificate;
 use wh_cert_text::read_certificate;
 use wh_checker::valid_certificates_mean_bounded;
 use wh_io::Shelf;
-use wh_judging::{Problem, certificate_in, problem_in, weigh};
+use wh_top_judging::{Problem, certificate_in, problem_in, weigh};
 use wh_no::valid_claims_are_unbounded;
 use wh_prover::{Answer, Options, prove};
 use wh_system::System;
@@ -29,7 +29,7 @@ use wh_tell::{Text, number_of, put_graph, put_lints, put_pair_line, put_ranks, t
 use wh_tell_nodes::put_tree;
 use wh_tell_parts::{put_attempt, put_loop};
 use wh_types::{Bytes, Or};
-use wh_verdict::{Verdict, first_words, verdict_of};
+use wh_explain_verdict::{Verdict, first_words, verdict_of};
 
 /// The bounds of a search, which are those of `prove` where it is given none.
 const USUAL: Options = Options {

@@ -4,8 +4,8 @@ use Rattle.wh_terms.specs.Tree.{Tm, meta, app, none, more, Tms}
 use Rattle.wh_circuit.specs.declared.circuit.Circuit.{Circuit}
 use Rattle.wh_circuit.specs.declared.circuit.Gate.{Gate}
 use Rattle.wh_circuit.specs.Values.{number_of}
-use Rattle.wh_flat.specs.Flat.{occurrences}
-use Rattle.wh_flat.specs.Worth.{coefficient, symbol_in, places_in}
+use Rattle.wh_poly_flat.specs.Flat.{occurrences}
+use Rattle.wh_poly_flat.specs.Worth.{coefficient, symbol_in, places_in}
 use Rattle.wh_find_flat.specs.Lists.{lists_for, IsAbsent, IsWrittenAt}
 use Rattle.wh_find_flat.specs.Plain.{IsPlain}
 use Rattle.wh_find_flat.specs.Parts.{number_at}

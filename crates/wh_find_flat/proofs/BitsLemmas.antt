@@ -1,9 +1,9 @@
 -- Coefficients that bits write, one by one.
 use Rattle.std.proofs.Common.{◌≡◌, ℕ, zero, suc, ◌+◌, ◌*◌, ◌^◌, ◌<◌, ◌≤◌, Bool, true, false, if◌then◌else◌, List, [], ◌∷◌, length, get_or, refl, ap, ◌∙◌, arith}
-use Rattle.wh_space.specs.Coefficients.{capped}
-use Rattle.wh_blocking.specs.Bits.{digit, digits}
-use Rattle.wh_blocking.specs.Sizes.{bits_in, first_of, lists_of}
-use Rattle.wh_blocking.proofs.BitLemmas.{first_next, first_within}
+use Rattle.wh_poly_space.specs.Coefficients.{capped}
+use Rattle.wh_poly_blocking.specs.Bits.{digit, digits}
+use Rattle.wh_poly_blocking.specs.Sizes.{bits_in, first_of, lists_of}
+use Rattle.wh_poly_blocking.proofs.BitLemmas.{first_next, first_within}
 use Rattle.wh_find_flat.specs.Lists.{IsAbsent, IsWrittenAt}
 
 list_at : (v : ℕ → Bool) (x : ℕ) (sizes : List ℕ) (n : ℕ) → n < length sizes

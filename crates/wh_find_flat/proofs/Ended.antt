@@ -10,12 +10,12 @@ use Rattle.wh_pairs.specs.Marked.{AreMarked}
 use Rattle.wh_system.specs.SystemView.{system_data}
 use Rattle.wh_system.specs.Systems.{SystemData}
 use Rattle.wh_system.specs.WellMade.{IsWellMadeSystem}
-use Rattle.wh_reduction.specs.TaskData.{TaskData, IsTask, task_over}
-use Rattle.wh_reduction.specs.TaskView.{task_data}
-use Rattle.wh_reduction.specs.declared.task.Task.{Task}
+use Rattle.wh_reduction_pairs.specs.TaskData.{TaskData, IsTask, task_over}
+use Rattle.wh_reduction_pairs.specs.TaskView.{task_data}
+use Rattle.wh_reduction_pairs.specs.declared.task.Task.{Task}
 use Rattle.wh_polycheck.specs.Covering.{IsTypedTask}
 use Rattle.wh_polycheck.specs.Readings.{ReadingsData}
-use Rattle.wh_covering.proofs.Walks.{marks_are}
+use Rattle.wh_poly_covering.proofs.Walks.{marks_are}
 use Rattle.wh_usable.specs.Closed.{IsUsable}
 use Rattle.wh_usable.proofs.Whole.{all_in_order}
 use Rattle.wh_proof.specs.Looked.{poly_task}
@@ -26,16 +26,16 @@ use Rattle.wh_circuit.specs.Gates.{Agrees, Ordered}
 use Rattle.wh_circuit.specs.Values.{all_true}
 use Rattle.wh_circuit.specs.State.{gates_of, required_of}
 use Rattle.wh_circuit.specs.declared.circuit.Circuit.{Circuit}
-use Rattle.wh_space.specs.Space.{space_of}
-use Rattle.wh_guesses.specs.Coefficients.{scopes_of, HaveCoefficients}
-use Rattle.wh_guesses.specs.Conditions.{Fails, LetsGo}
-use Rattle.wh_guesses.specs.Tasks.{IsGuessOf, guess_data}
-use Rattle.wh_guesses.specs.declared.guess.Guess.{Guess}
-use Rattle.wh_guesses.proofs.GuessLemmas.{guess_of_space}
-use Rattle.wh_blocking.specs.Sizes.{bits_in, lists_of, value_of}
-use Rattle.wh_blocking.specs.Tried.{AreWritten}
-use Rattle.wh_blocking.proofs.EncodingLemmas.{lists_are}
-use Rattle.wh_flat.specs.Flat.{IsFlat, all_occurrences}
+use Rattle.wh_poly_space.specs.Space.{space_of}
+use Rattle.wh_poly_guesses.specs.Coefficients.{scopes_of, HaveCoefficients}
+use Rattle.wh_poly_guesses.specs.Conditions.{Fails, LetsGo}
+use Rattle.wh_poly_guesses.specs.Tasks.{IsGuessOf, guess_data}
+use Rattle.wh_poly_guesses.specs.declared.guess.Guess.{Guess}
+use Rattle.wh_poly_guesses.proofs.GuessLemmas.{guess_of_space}
+use Rattle.wh_poly_blocking.specs.Sizes.{bits_in, lists_of, value_of}
+use Rattle.wh_poly_blocking.specs.Tried.{AreWritten}
+use Rattle.wh_poly_blocking.proofs.EncodingLemmas.{lists_are}
+use Rattle.wh_poly_flat.specs.Flat.{IsFlat, all_occurrences}
 use Rattle.wh_find_flat.specs.Ready.{IsFlatCircuit}
 use Rattle.wh_find_flat.specs.Answers.{IsClosedList, IsFlatFormula, most_variables}
 use Rattle.wh_find_flat.proofs.Formulas.{flat_formula}

@@ -6,10 +6,10 @@ use Rattle.wh_terms.specs.Tree.{Tm, bound, free, fun, meta, lam, app, none, more
 use Rattle.wh_terms.specs.Typing.{Symbols, Declared}
 use Rattle.wh_terms.specs.Rules.{RewriteRule}
 use Rattle.wh_pairs.specs.PairData.{PairData}
-use Rattle.wh_first_order.specs.FirstOrder.{IsFlatTree, AreFlatTrees}
-use Rattle.wh_flat.specs.Flat.{IsFlatRule, IsFlatPair}
-use Rattle.wh_flat.proofs.Sides.{spine_occurrences}
-use Rattle.wh_flat.specs.Dominance.{place_among}
+use Rattle.wh_usable_first_order.specs.FirstOrder.{IsFlatTree, AreFlatTrees}
+use Rattle.wh_poly_flat.specs.Flat.{IsFlatRule, IsFlatPair}
+use Rattle.wh_poly_flat.proofs.Sides.{spine_occurrences}
+use Rattle.wh_poly_flat.specs.Dominance.{place_among}
 use Rattle.wh_find_flat.specs.Plain.{IsPlain, stands_in}
 use Rattle.wh_find_flat.specs.Ready.{IsReadyRule, IsReadyPair}
 

@@ -4,7 +4,7 @@ use Rattle.wh_system.specs.Systems.{SystemData}
 use Rattle.wh_system.specs.WellMade.{IsWellMadeSystem}
 use Rattle.wh_pairs.specs.PairData.{PairData}
 use Rattle.wh_pairs.specs.Marked.{AreMarked}
-use Rattle.wh_reduction.specs.TaskData.{TaskData}
+use Rattle.wh_reduction_pairs.specs.TaskData.{TaskData}
 use Rattle.wh_polycheck.specs.Readings.{ReadingsData, AreReadingsFor}
 use Rattle.wh_polycheck.specs.Covering.{HaveTypedSides}
 use Rattle.wh_polycheck.specs.Marks.{Mark}
@@ -17,17 +17,17 @@ use Rattle.wh_circuit.specs.Values.{all_true}
 use Rattle.wh_circuit.specs.State.{gates_of, required_of}
 use Rattle.wh_circuit.specs.declared.circuit.Circuit.{Circuit}
 use Rattle.wh_circuit.proofs.Carrying.{values_exist_law}
-use Rattle.wh_space.specs.Space.{space_of}
-use Rattle.wh_guesses.specs.Coefficients.{scopes_of, AreOfSpace, HaveCoefficients}
-use Rattle.wh_guesses.specs.Conditions.{LetsGo}
-use Rattle.wh_blocking.specs.Bits.{digits, lists_by}
-use Rattle.wh_blocking.specs.Sizes.{bits_in, lists_of}
-use Rattle.wh_blocking.specs.Tried.{AreWritten}
-use Rattle.wh_blocking.proofs.EncodingLemmas.{lists_same}
-use Rattle.wh_blocking.proofs.Written.{written}
-use Rattle.wh_flat.specs.Flat.{IsFlat, all_occurrences, task_for}
-use Rattle.wh_flat.specs.Dominance.{LetsGoBy}
-use Rattle.wh_flat.proofs.Law.{lets_go_if, lets_go_by}
+use Rattle.wh_poly_space.specs.Space.{space_of}
+use Rattle.wh_poly_guesses.specs.Coefficients.{scopes_of, AreOfSpace, HaveCoefficients}
+use Rattle.wh_poly_guesses.specs.Conditions.{LetsGo}
+use Rattle.wh_poly_blocking.specs.Bits.{digits, lists_by}
+use Rattle.wh_poly_blocking.specs.Sizes.{bits_in, lists_of}
+use Rattle.wh_poly_blocking.specs.Tried.{AreWritten}
+use Rattle.wh_poly_blocking.proofs.EncodingLemmas.{lists_same}
+use Rattle.wh_poly_blocking.proofs.Written.{written}
+use Rattle.wh_poly_flat.specs.Flat.{IsFlat, all_occurrences, task_for}
+use Rattle.wh_poly_flat.specs.Dominance.{LetsGoBy}
+use Rattle.wh_poly_flat.proofs.Law.{lets_go_if, lets_go_by}
 use Rattle.wh_find_flat.specs.Lists.{lists_for}
 use Rattle.wh_find_flat.specs.Ready.{IsFlatCircuit}
 use Rattle.wh_find_flat.specs.Answers.{IsFlatFormula, most_variables}

@@ -11,8 +11,8 @@ use Rattle.wh_circuit.specs.declared.circuit.Circuit.{Circuit}
 use Rattle.wh_circuit.specs.declared.circuit.Gate.{Gate}
 use Rattle.wh_circuit.specs.Gates.{Means}
 use Rattle.wh_circuit.proofs.Gating.{at_left, at_last}
-use Rattle.wh_flat.specs.Worth.{IsAtLeast, constant_of}
-use Rattle.wh_flat.specs.Dominance.{place_among}
+use Rattle.wh_poly_flat.specs.Worth.{IsAtLeast, constant_of}
+use Rattle.wh_poly_flat.specs.Dominance.{place_among}
 use Rattle.wh_find_flat.specs.Lists.{lists_for}
 use Rattle.wh_find_flat.specs.Numbers.{Later, AreInputs, Asks}
 use Rattle.wh_find_flat.specs.Ready.{RuleHolds, PairHolds, TellsGreater, left_of, right_of}

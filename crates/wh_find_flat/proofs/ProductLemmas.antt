@@ -6,7 +6,7 @@ use Rattle.wh_sat.specs.Solving.{literal_true}
 use Rattle.wh_circuit.specs.declared.circuit.Gate.{Gate}
 use Rattle.wh_circuit.specs.Gates.{Agrees, AreWires, MeansNumber}
 use Rattle.wh_circuit.specs.Values.{bit, number_of}
-use Rattle.wh_blocking.specs.Bits.{digit}
+use Rattle.wh_poly_blocking.specs.Bits.{digit}
 use Rattle.wh_find_flat.specs.Numbers.{Later}
 use Rattle.wh_find_flat.specs.Products.{digit_by, IsProduct}
 use Rattle.wh_find_flat.proofs.Growth.{agrees_early}

@@ -2,10 +2,10 @@
 use Rattle.std.proofs.Common.{◌≡◌, ℕ, zero, suc, ◌+◌, ◌*◌, ◌^◌, ◌<◌, ◌≤◌, ◌==◌, if◌then◌else◌, Bool, true, false, List, ap, sym, subst, ◌∙◌, arith}
 use Rattle.std.proofs.lemmas.Nat.{pow-add}
 use Rattle.wh_terms.specs.Tree.{Tm, bound, free, fun, meta, lam, app, none, more}
-use Rattle.wh_flat.specs.Flat.{occurrences}
-use Rattle.wh_flat.specs.Worth.{coefficient, worth, symbol_in, places_in}
-use Rattle.wh_flat.proofs.Tails.{coefficient_small}
-use Rattle.wh_flat.proofs.Valued.{power_at_least, product_bound}
+use Rattle.wh_poly_flat.specs.Flat.{occurrences}
+use Rattle.wh_poly_flat.specs.Worth.{coefficient, worth, symbol_in, places_in}
+use Rattle.wh_poly_flat.proofs.Tails.{coefficient_small}
+use Rattle.wh_poly_flat.proofs.Valued.{power_at_least, product_bound}
 use Rattle.wh_find_flat.specs.Plain.{IsPlain}
 use Rattle.wh_find_flat.specs.Parts.{number_at, one_of, weights_of}
 use Rattle.wh_find_flat.specs.declared.part.Part.{Part}

@@ -2,8 +2,8 @@
 use Rattle.std.proofs.Common.{◌≡◌, ℕ, zero, suc, ◌+◌, ◌*◌, ◌<◌, ◌≤◌, ◌==◌, ◌||◌, if◌then◌else◌, inl, inr, Bool, true, false, List, add-one, refl, ap, ap₂, ◌∙◌, arith, tests}
 use Rattle.std.proofs.Math.Nat.{mul-le-mul}
 use Rattle.wh_terms.specs.Tree.{Tm, Tms, bound, free, fun, meta, lam, app, none, more}
-use Rattle.wh_flat.specs.Flat.{occurrences}
-use Rattle.wh_flat.specs.Worth.{IsAtLeast, constant_of, factor_of, coefficient, symbol_in, places_in}
+use Rattle.wh_poly_flat.specs.Flat.{occurrences}
+use Rattle.wh_poly_flat.specs.Worth.{IsAtLeast, constant_of, factor_of, coefficient, symbol_in, places_in}
 use Rattle.wh_circuit.proofs.Solving.{cases_bool}
 use Rattle.wh_find_flat.specs.Plain.{IsPlain, stands_in, standing}
 

@@ -7,11 +7,11 @@ use Rattle.wh_terms.specs.Typing.{Symbols}
 use Rattle.wh_terms.specs.Rules.{RewriteRule}
 use Rattle.wh_pairs.specs.PairData.{PairData}
 use Rattle.wh_pairs.specs.Sets.{InSet}
-use Rattle.wh_reduction.specs.TaskData.{TaskData}
+use Rattle.wh_reduction_pairs.specs.TaskData.{TaskData}
 use Rattle.std.specs.Option.{option_map_or}
 use Rattle.std.proofs.lemmas.List.Sums.{sum_by-cons}
 use Rattle.std.proofs.lemmas.List.Elements.{All-contains}
-use Rattle.wh_flat.specs.Flat.{IsListed, all_occurrences, occurrences_at, pair_occurrences, rule_occurrences, rule_occurrences_at}
+use Rattle.wh_poly_flat.specs.Flat.{IsListed, all_occurrences, occurrences_at, pair_occurrences, rule_occurrences, rule_occurrences_at}
 use Rattle.wh_pairs.proofs.ByPlace.{contains_at, place_of, some_one}
 use Rattle.wh_circuit.specs.declared.circuit.Circuit.{Circuit}
 use Rattle.wh_circuit.specs.declared.circuit.Gate.{Gate}
@@ -20,8 +20,8 @@ use Rattle.wh_circuit.specs.State.{gates_of, required_of}
 use Rattle.wh_circuit.specs.Values.{all_true}
 use Rattle.wh_circuit.proofs.Gating.{slice_get_front}
 use Rattle.wh_circuit.proofs.Solving.{cases_bool}
-use Rattle.wh_flat.specs.Worth.{IsGreater, constant_of}
-use Rattle.wh_flat.specs.Dominance.{LetsGoBy}
+use Rattle.wh_poly_flat.specs.Worth.{IsGreater, constant_of}
+use Rattle.wh_poly_flat.specs.Dominance.{LetsGoBy}
 use Rattle.wh_find_flat.specs.Answers.{most_variables}
 use Rattle.wh_find_flat.specs.Lists.{lists_for}
 use Rattle.wh_find_flat.specs.Numbers.{Later, AreInputs, Asks, Builds}

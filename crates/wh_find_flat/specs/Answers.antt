@@ -3,7 +3,7 @@ use Rattle.std.specs.Prelude.{ℕ, ◌+◌, ◌*◌, ◌≤◌, ◌≡◌, Bool,
 use Rattle.wh_system.specs.Systems.{SystemData}
 use Rattle.wh_pairs.specs.PairData.{PairData}
 use Rattle.wh_pairs.specs.Marked.{AreMarked}
-use Rattle.wh_reduction.specs.TaskData.{TaskData}
+use Rattle.wh_reduction_pairs.specs.TaskData.{TaskData}
 use Rattle.wh_polycheck.specs.Readings.{ReadingsData}
 use Rattle.wh_cert.specs.declared.certificate.Node.{Node}
 use Rattle.wh_cert.specs.Said.{said_node}
@@ -15,11 +15,11 @@ use Rattle.wh_sat.specs.Learning.{Learnt}
 use Rattle.wh_sat.specs.Solving.{Solves}
 use Rattle.wh_sat.specs.declared.solving.Search.{Search}
 use Rattle.wh_sat.specs.declared.solving.Search.TheVariants as search
-use Rattle.wh_guesses.specs.Coefficients.{AreOfSpace}
-use Rattle.wh_guesses.specs.Conditions.{HasNoInterpretation, LetsGo}
-use Rattle.wh_guesses.specs.Found.{IsInterpretationOver}
-use Rattle.wh_blocking.specs.Tried.{AreWritten}
-use Rattle.wh_flat.specs.Flat.{all_occurrences}
+use Rattle.wh_poly_guesses.specs.Coefficients.{AreOfSpace}
+use Rattle.wh_poly_guesses.specs.Conditions.{HasNoInterpretation, LetsGo}
+use Rattle.wh_poly_guesses.specs.Found.{IsInterpretationOver}
+use Rattle.wh_poly_blocking.specs.Tried.{AreWritten}
+use Rattle.wh_poly_flat.specs.Flat.{all_occurrences}
 
 -- so many variables there are at most: 200,000 for each occurrence, and where no rules are to be covered 400,000 more,
 -- as all symbols have coefficients

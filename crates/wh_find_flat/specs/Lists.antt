@@ -1,8 +1,8 @@
 -- The coefficients that bits write, by how many each symbol has.
 use Rattle.std.specs.Prelude.{ℕ, suc, ◌<◌, ◌≡◌, Bool, List}
-use Rattle.wh_blocking.specs.Bits.{digit}
-use Rattle.wh_blocking.specs.Sizes.{lists_of, bits_in}
-use Rattle.wh_flat.specs.Worth.{coefficient}
+use Rattle.wh_poly_blocking.specs.Bits.{digit}
+use Rattle.wh_poly_blocking.specs.Sizes.{lists_of, bits_in}
+use Rattle.wh_poly_flat.specs.Worth.{coefficient}
 
 -- the lists of all coefficients, numbered as symbols and marked symbols are
 abbrev pub lists_for : List ℕ → (ℕ → Bool) → List (List ℕ)

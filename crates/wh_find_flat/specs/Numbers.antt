@@ -6,8 +6,8 @@ use Rattle.wh_circuit.specs.declared.circuit.Gate.{Gate}
 use Rattle.wh_circuit.specs.Gates.{Agrees, Extends, MeansNumber}
 use Rattle.wh_circuit.specs.State.{gates_of, required_of}
 use Rattle.wh_circuit.specs.Values.{all_true}
-use Rattle.wh_flat.specs.Flat.{occurrences}
-use Rattle.wh_flat.specs.Worth.{symbol_in, places_in}
+use Rattle.wh_poly_flat.specs.Flat.{occurrences}
+use Rattle.wh_poly_flat.specs.Worth.{symbol_in, places_in}
 use Rattle.wh_find_flat.specs.Lists.{lists_for}
 use Rattle.wh_find_flat.specs.Parts.{number_at}
 use Rattle.wh_find_flat.specs.declared.part.Part.{Part}

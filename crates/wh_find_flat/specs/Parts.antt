@@ -1,7 +1,7 @@
 -- The numbers that a flat side comes to: its constant, and a factor for each meta-variable.
 use Rattle.std.specs.Prelude.{ℕ, List}
 use Rattle.wh_terms.specs.Tree.{Tm}
-use Rattle.wh_flat.specs.Worth.{worth, nothing, only}
+use Rattle.wh_poly_flat.specs.Worth.{worth, nothing, only}
 use Rattle.wh_find_flat.specs.declared.part.Part.{Part}
 use Rattle.wh_find_flat.specs.declared.part.Part.TheVariants.{Constant, Factor}
 

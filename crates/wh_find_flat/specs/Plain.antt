@@ -1,6 +1,6 @@
 -- Trees of symbols, of meta-variables without arguments and of applications.
 use Rattle.std.specs.Prelude.{ℕ, zero, suc, ◌+◌, ◌≤◌, ◌==◌, ◌||◌, Bool, false, if◌then◌else◌}
-use Rattle.wh_flat.specs.Flat.{occurrences}
+use Rattle.wh_poly_flat.specs.Flat.{occurrences}
 use Rattle.wh_terms.specs.Tree.{Tm, fun, meta, app, none}
 
 -- nothing else stands in the tree

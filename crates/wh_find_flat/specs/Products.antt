@@ -4,7 +4,7 @@ use Rattle.wh_sat_trail.specs.declared.literal.Literal.{Literal}
 use Rattle.wh_circuit.specs.declared.circuit.Gate.{Gate}
 use Rattle.wh_circuit.specs.Gates.{Agrees, AreWires}
 use Rattle.wh_circuit.specs.Values.{number_of}
-use Rattle.wh_blocking.specs.Bits.{digit}
+use Rattle.wh_poly_blocking.specs.Bits.{digit}
 
 -- the coefficient that the bit and the next one write; one without bits is 0
 abbrev pub digit_by : Option ℕ → (ℕ → Bool) → ℕ

@@ -4,14 +4,14 @@ use Rattle.wh_sat_trail.specs.declared.literal.Literal.{Literal}
 use Rattle.wh_terms.specs.Tree.{Tm, fun, spine}
 use Rattle.wh_terms.specs.Rules.{RewriteRule}
 use Rattle.wh_pairs.specs.PairData.{PairData}
-use Rattle.wh_reduction.specs.TaskData.{TaskData}
+use Rattle.wh_reduction_pairs.specs.TaskData.{TaskData}
 use Rattle.wh_circuit.specs.declared.circuit.Circuit.{Circuit}
 use Rattle.wh_circuit.specs.declared.circuit.Gate.{Gate}
 use Rattle.wh_circuit.specs.Gates.{Agrees, Means}
 use Rattle.wh_circuit.specs.State.{gates_of, required_of}
 use Rattle.wh_circuit.specs.Values.{all_true}
-use Rattle.wh_flat.specs.Worth.{IsAtLeast, constant_of}
-use Rattle.wh_flat.specs.Dominance.{place_among, LetsGoBy}
+use Rattle.wh_poly_flat.specs.Worth.{IsAtLeast, constant_of}
+use Rattle.wh_poly_flat.specs.Dominance.{place_among, LetsGoBy}
 use Rattle.wh_find_flat.specs.Lists.{lists_for}
 use Rattle.wh_find_flat.specs.Plain.{ArePlainSides, stands_in}
 use Rattle.wh_find_flat.specs.Numbers.{AreInputs}

@@ -1,7 +1,7 @@
 //! The bits of coefficients, two for each.
 
 ghost use Rattle.std.specs.Prelude.{◌≡◌, ◌+◌, ◌≤◌, ◌<◌, ◌^◌, ℕ, get_or, length};
-ghost use Rattle.wh_blocking.specs.Sizes.{bits_in, first_of};
+ghost use Rattle.wh_poly_blocking.specs.Sizes.{bits_in, first_of};
 
 /// How many coefficients each symbol has, and then each of the marked symbols of a set, and which bit of all of them
 /// comes first.
@@ -18,7 +18,7 @@ pub struct Bits {
 
 impl Bits {
     ghost use Rattle.std.specs.Prelude.{◌≡◌, MatchOption};
-    ghost use Rattle.wh_blocking.specs.Sizes.{bits_in};
+    ghost use Rattle.wh_poly_blocking.specs.Sizes.{bits_in};
     ghost use Rattle.wh_find_flat.specs.Lists.{IsAbsent, IsWrittenAt};
 
     /// How many bits there are.

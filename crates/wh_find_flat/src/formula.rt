@@ -5,24 +5,24 @@ ghost use Rattle.wh_terms.specs.Erase.{rewrite_rules};
 ghost use Rattle.wh_terms.specs.Rules.{RewriteRule};
 ghost use Rattle.wh_pairs.specs.PairData.{PairData, pair_data};
 ghost use Rattle.wh_pairs.specs.Sets.{InSet};
-ghost use Rattle.wh_reduction.specs.TaskView.{task_data};
-ghost use Rattle.wh_blocking.specs.Sizes.{bits_in};
+ghost use Rattle.wh_reduction_pairs.specs.TaskView.{task_data};
+ghost use Rattle.wh_poly_blocking.specs.Sizes.{bits_in};
 ghost use Rattle.wh_circuit.specs.State.{gates_of, required_of};
-ghost use Rattle.wh_flat.specs.Flat.{IsListed, all_occurrences, most_in_all, occurrences_at, pair_occurrences, rule_occurrences_at};
-ghost use Rattle.wh_flat.specs.Dominance.{place_among};
+ghost use Rattle.wh_poly_flat.specs.Flat.{IsListed, all_occurrences, most_in_all, occurrences_at, pair_occurrences, rule_occurrences_at};
+ghost use Rattle.wh_poly_flat.specs.Dominance.{place_among};
 ghost use Rattle.wh_find_flat.specs.Numbers.{AreInputs, Asks};
 ghost use Rattle.wh_find_flat.specs.Ready.{AreGreater, IsFlatCircuit, IsReadyPair, IsReadyRule, PairHolds, RuleHolds, left_of, right_of};
 ghost use Rattle.wh_find_flat.specs.Answers.{most_variables};
 ghost use Rattle.wh_find_flat.specs.Lists.{lists_for};
 ghost use Rattle.wh_circuit.specs.Gates.{Means};
-ghost use Rattle.wh_flat.specs.Worth.{IsAtLeast, constant_of};
+ghost use Rattle.wh_poly_flat.specs.Worth.{IsAtLeast, constant_of};
 
 use crate::bits::Bits;
 use crate::sides::{require_pair, require_rule};
 use std::alloc::{AllocError, Global};
 use wh_circuit::{Circuit, Wire};
 use wh_pairs::{Pair, call};
-use wh_reduction::Task;
+use wh_reduction_pairs::Task;
 use wh_terms::Rule;
 
 // So many inputs.

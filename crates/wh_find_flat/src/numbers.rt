@@ -3,11 +3,11 @@
 ghost use Rattle.std.specs.Prelude.{ℕ, ◌+◌, ◌*◌, ◌-◌, ◌<◌, ◌≤◌, ◌^◌, IfOk, List, OnOk, length};
 ghost use Rattle.wh_terms.specs.Erase.{tm};
 ghost use Rattle.wh_terms.specs.Tree.{Tm, app, fun, meta, none};
-ghost use Rattle.wh_blocking.specs.Sizes.{bits_in};
+ghost use Rattle.wh_poly_blocking.specs.Sizes.{bits_in};
 ghost use Rattle.wh_circuit.specs.Gates.{AreWires, MeansNumber};
 ghost use Rattle.wh_circuit.specs.State.{gates_of};
-ghost use Rattle.wh_flat.specs.Flat.{occurrences};
-ghost use Rattle.wh_flat.specs.Worth.{coefficient};
+ghost use Rattle.wh_poly_flat.specs.Flat.{occurrences};
+ghost use Rattle.wh_poly_flat.specs.Worth.{coefficient};
 ghost use Rattle.wh_find_flat.specs.Lists.{lists_for};
 ghost use Rattle.wh_find_flat.specs.Plain.{IsPlain};
 ghost use Rattle.wh_find_flat.specs.Numbers.{Builds, IsValue};

@@ -2,11 +2,11 @@
 
 ghost use Rattle.std.specs.Prelude.{◌≡◌, ℕ, ◌+◌, ◌*◌, ◌-◌, ◌<◌, ◌≤◌, ◌^◌, IfOk, OnOk, length, nat_lt, true};
 ghost use Rattle.wh_terms.specs.Erase.{tm};
-ghost use Rattle.wh_blocking.specs.Sizes.{bits_in};
+ghost use Rattle.wh_poly_blocking.specs.Sizes.{bits_in};
 ghost use Rattle.wh_circuit.specs.Gates.{Means};
 ghost use Rattle.wh_circuit.specs.State.{gates_of};
-ghost use Rattle.wh_flat.specs.Flat.{occurrences};
-ghost use Rattle.wh_flat.specs.Worth.{IsAtLeast, constant_of, factor_of};
+ghost use Rattle.wh_poly_flat.specs.Flat.{occurrences};
+ghost use Rattle.wh_poly_flat.specs.Worth.{IsAtLeast, constant_of, factor_of};
 ghost use Rattle.wh_find_flat.specs.Lists.{lists_for};
 ghost use Rattle.wh_find_flat.specs.Plain.{ArePlainSides, stands_in};
 ghost use Rattle.wh_find_flat.specs.Parts.{number_at};

@@ -14,22 +14,22 @@ use Rattle.wh_step.specs.Step.{Step}
 use Rattle.wh_step.proofs.Places.{step-step_at}
 use Rattle.wh_system.specs.Systems.{SystemData}
 use Rattle.wh_cert.specs.Written.{Cert}
-use Rattle.wh_loops.specs.Starts.{IsStart}
-use Rattle.wh_loops.specs.Space.{InSpace, Path, at_start, further, HasNoLoop}
-use Rattle.wh_loops.specs.Found.{IsLoopCertificate}
-use Rattle.wh_reached.specs.Arrivals.{arrival, HoldsNoInstance}
+use Rattle.wh_loop_starts.specs.Starts.{IsStart}
+use Rattle.wh_loop_starts.specs.Space.{InSpace, Path, at_start, further, HasNoLoop}
+use Rattle.wh_loop_starts.specs.Found.{IsLoopCertificate}
+use Rattle.wh_loop_reached.specs.Arrivals.{arrival, HoldsNoInstance}
 use Rattle.wh_find_loop.specs.Answers.{IsReached, ReachesFewer, AreVisited}
-use Rattle.wh_find_steps.specs.StepLists.{ListsAllSteps}
-use Rattle.wh_reached.specs.Listing.{tree, arrival_of, arrivals, IsEntry, IsListed, IsListing, Extends, IsLinked, Takes}
+use Rattle.wh_loop_steps.specs.StepLists.{ListsAllSteps}
+use Rattle.wh_loop_reached.specs.Listing.{tree, arrival_of, arrivals, IsEntry, IsListed, IsListing, Extends, IsLinked, Takes}
 use Rattle.wh_find_loop.specs.Searching.{IsTried, IsDone, AreDone, AreBelow, TriesOn, GoesOn, IsComplete, GoesThrough, HasNoInstance, AreStarts, TakesStart}
-use Rattle.wh_reached.specs.declared.visit.Visit.{Visit}
-use Rattle.wh_reached.specs.declared.listing.Entry.{Entry}
-use Rattle.wh_reached.specs.declared.listing.Origin.{Origin}
-use Rattle.wh_reached.specs.declared.listing.Listing.{Listing}
-use Rattle.wh_reached.proofs.ListLemmas.{no_longer, no_some}
-use Rattle.wh_reached.proofs.ListingLemmas.{at_listed, listed_longer, extends_none, extends_more, at_longer, at_shorter, same_at, all_here}
+use Rattle.wh_loop_reached.specs.declared.visit.Visit.{Visit}
+use Rattle.wh_loop_reached.specs.declared.listing.Entry.{Entry}
+use Rattle.wh_loop_reached.specs.declared.listing.Origin.{Origin}
+use Rattle.wh_loop_reached.specs.declared.listing.Listing.{Listing}
+use Rattle.wh_loop_reached.proofs.ListLemmas.{no_longer, no_some}
+use Rattle.wh_loop_reached.proofs.ListingLemmas.{at_listed, listed_longer, extends_none, extends_more, at_longer, at_shorter, same_at, all_here}
 use Rattle.wh_find_loop.proofs.SpaceLemmas.{start_one}
-use Rattle.wh_find_steps.proofs.CandidateLemmas.{below_or_at}
+use Rattle.wh_loop_steps.proofs.CandidateLemmas.{below_or_at}
 
 -- the empty list
 pub empty_listing : {d : SystemData} (l : Listing) → length l.marks ≡ 16384 → l.entries.items ≡ [] → IsListing d 0 l

@@ -10,8 +10,8 @@ use Rattle.wh_step.specs.Step.{Step}
 use Rattle.wh_step.proofs.Instances.{instances_typed}
 use Rattle.wh_step.proofs.RawStep.{step_raw}
 use Rattle.wh_step.proofs.RootLaws.{same_rule}
-use Rattle.wh_loops.specs.Starts.{IsStart, start_of}
-use Rattle.wh_loops.specs.Space.{InSpace, Path, at_start, further, Reached}
+use Rattle.wh_loop_starts.specs.Starts.{IsStart, start_of}
+use Rattle.wh_loop_starts.specs.Space.{InSpace, Path, at_start, further, Reached}
 
 pub start_one : (rules : List RewriteRule) (n : ℕ) (s t : Tm) → IsStart rules n s → IsStart rules n t → s ≡ t
 start_one rules n s t (r, e, is) (q, d, js) = is ∙ ap start_of (sym (same_rule rules n r q e d)) ∙ sym js

@@ -12,15 +12,15 @@ use Rattle.wh_step.specs.Replay.{StepAt}
 use Rattle.wh_step.proofs.Places.{step_at-step}
 use Rattle.wh_step.proofs.RootLaws.{step_one}
 use Rattle.wh_system.specs.Systems.{SystemData}
-use Rattle.wh_loops.specs.Starts.{IsStart}
-use Rattle.wh_loops.specs.Space.{InSpace, Reached, HoldsInstanceOf}
-use Rattle.wh_find_steps.specs.Reducts.{IsReduct, HasNoReduct}
-use Rattle.wh_reached.specs.Listing.{tree, IsEntry, IsLinked, IsListing, IsListed, Takes}
+use Rattle.wh_loop_starts.specs.Starts.{IsStart}
+use Rattle.wh_loop_starts.specs.Space.{InSpace, Reached, HoldsInstanceOf}
+use Rattle.wh_loop_steps.specs.Reducts.{IsReduct, HasNoReduct}
+use Rattle.wh_loop_reached.specs.Listing.{tree, IsEntry, IsLinked, IsListing, IsListed, Takes}
 use Rattle.wh_find_loop.specs.Searching.{IsTried, HasNoInstance, TriesOn, AreStarts}
-use Rattle.wh_reached.specs.declared.listing.Entry.{Entry}
-use Rattle.wh_reached.specs.declared.listing.Origin.{Origin}
-use Rattle.wh_reached.specs.declared.listing.Listing.{Listing}
-use Rattle.wh_reached.proofs.ListingLemmas.{extends_none, same_at}
+use Rattle.wh_loop_reached.specs.declared.listing.Entry.{Entry}
+use Rattle.wh_loop_reached.specs.declared.listing.Origin.{Origin}
+use Rattle.wh_loop_reached.specs.declared.listing.Listing.{Listing}
+use Rattle.wh_loop_reached.proofs.ListingLemmas.{extends_none, same_at}
 use Rattle.wh_find_loop.proofs.SpaceLemmas.{start_one, path_space, path_start, typed_next, reached_next}
 
 module _ (d : SystemData) where

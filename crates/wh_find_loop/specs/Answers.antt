@@ -3,11 +3,11 @@ use Rattle.std.specs.Prelude.{ℕ, ◌≡◌, ◌≢◌, ◌<◌, List, length, 
 use Rattle.wh_terms.specs.Rules.{RewriteRule}
 use Rattle.wh_system.specs.Systems.{SystemData}
 use Rattle.wh_cert.specs.Said.{said_no}
-use Rattle.wh_loops.specs.Space.{Reached, HasNoLoop}
-use Rattle.wh_loops.specs.Found.{IsLoopCertificate}
+use Rattle.wh_loop_starts.specs.Space.{Reached, HasNoLoop}
+use Rattle.wh_loop_starts.specs.Found.{IsLoopCertificate}
 use Rattle.wh_find_loop.specs.declared.answer.LoopSearch.{LoopSearch}
 use Rattle.wh_find_loop.specs.declared.answer.LoopSearch.TheVariants.{Found, Nothing, Full}
-use Rattle.wh_reached.specs.Arrivals.{Arrival, arrival, HoldsNoInstance}
+use Rattle.wh_loop_reached.specs.Arrivals.{Arrival, arrival, HoldsNoInstance}
 
 -- the term of the arrival is reached in at most so many steps
 abbrev pub IsReached : List RewriteRule → ℕ → Arrival → Type 0

@@ -12,17 +12,17 @@ use Rattle.wh_system.specs.Systems.{SystemData}
 use Rattle.std.specs.Global.{Box}
 use Rattle.wh_cert.specs.declared.certificate.NoCertificate.{NoCertificate}
 use Rattle.wh_cert.specs.Said.{said_no}
-use Rattle.wh_loops.specs.declared.instance.Instance.{Instance}
-use Rattle.wh_loops.specs.Starts.{IsStart}
-use Rattle.wh_loops.specs.Space.{InSpace, Path, HoldsInstanceOf, HasNoLoop}
-use Rattle.wh_loops.specs.Found.{IsInstanceIn, IsLoopCertificate}
-use Rattle.wh_find_steps.specs.StepLists.{IsRuleTable}
-use Rattle.wh_reached.specs.declared.listing.Entry.{Entry}
-use Rattle.wh_reached.specs.declared.listing.Listing.{Listing}
+use Rattle.wh_loop_starts.specs.declared.instance.Instance.{Instance}
+use Rattle.wh_loop_starts.specs.Starts.{IsStart}
+use Rattle.wh_loop_starts.specs.Space.{InSpace, Path, HoldsInstanceOf, HasNoLoop}
+use Rattle.wh_loop_starts.specs.Found.{IsInstanceIn, IsLoopCertificate}
+use Rattle.wh_loop_steps.specs.StepLists.{IsRuleTable}
+use Rattle.wh_loop_reached.specs.declared.listing.Entry.{Entry}
+use Rattle.wh_loop_reached.specs.declared.listing.Listing.{Listing}
 use Rattle.wh_find_loop.specs.declared.starts.Plan.{Plan}
 use Rattle.wh_find_loop.specs.declared.search.Progress.{Progress}
 use Rattle.wh_find_loop.specs.declared.search.Progress.TheVariants.{More, Full, Found}
-use Rattle.wh_reached.specs.Listing.{tree, IsListed, IsListing, Extends}
+use Rattle.wh_loop_reached.specs.Listing.{tree, IsListed, IsListing, Extends}
 
 -- the term holds no instance of the start of the rule with the number
 abbrev pub HasNoInstance : SystemData → ℕ → Tm → Type 0

@@ -1,7 +1,7 @@
 //! What the search for loops answers.
 
 use wh_cert::NoCertificate;
-use wh_reached::Visits;
+use wh_loop_reached::Visits;
 
 /// The answer of the search for loops.
 #[derive(Drop)]

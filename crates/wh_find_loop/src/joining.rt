@@ -2,10 +2,10 @@
 
 ghost use Rattle.std.specs.Prelude.{◌≡◌, ◌<◌, ◌^◌, ℕ, OnOk, length};
 ghost use Rattle.wh_system.specs.Systems.{SystemData};
-ghost use Rattle.wh_reached.specs.Listing.{AreMarked, IsEntry, IsLinked, IsListing, Takes, arrival_of};
+ghost use Rattle.wh_loop_reached.specs.Listing.{AreMarked, IsEntry, IsLinked, IsListing, Takes, arrival_of};
 
 use std::alloc::AllocError;
-use wh_reached::{Entry, Listing, add, is_listed};
+use wh_loop_reached::{Entry, Listing, add, is_listed};
 
 /// The entry joins at the end, if its term is not listed with its start.
 pub fn list_if_new(listing: &mut Listing, entry: Entry) -> Result<(), AllocError>

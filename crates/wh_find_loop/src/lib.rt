@@ -9,4 +9,4 @@ mod starts;
 
 pub use answer::LoopSearch;
 pub use search::find_loop;
-pub use wh_reached::{Visit, Visits};
+pub use wh_loop_reached::{Visit, Visits};

@@ -7,10 +7,10 @@ ghost use Rattle.wh_terms.specs.Typing.{WellTyped};
 ghost use Rattle.wh_system.specs.Systems.{SystemData};
 ghost use Rattle.wh_system.specs.SystemView.{system_data};
 ghost use Rattle.wh_cert.specs.Said.{said_no};
-ghost use Rattle.wh_loops.specs.Starts.{IsStart};
-ghost use Rattle.wh_loops.specs.Found.{IsLoopCertificate};
+ghost use Rattle.wh_loop_starts.specs.Starts.{IsStart};
+ghost use Rattle.wh_loop_starts.specs.Found.{IsLoopCertificate};
 ghost use Rattle.wh_find_loop.specs.Answers.{IsAnswer};
-ghost use Rattle.wh_reached.specs.Listing.{AreAllLinked, AreMarked, IsLinked, IsListing};
+ghost use Rattle.wh_loop_reached.specs.Listing.{AreAllLinked, AreMarked, IsLinked, IsListing};
 ghost use Rattle.wh_find_loop.specs.Searching.{AreBelow, AreDone, AreStarts, Comes, EndsAt, GoesOn, GoesThrough, IsPlan, ListsStarts, TakesStart, Tries};
 
 use crate::answer::LoopSearch;
@@ -18,9 +18,9 @@ use crate::joining::list_if_new;
 use crate::starts::{Plan, plan_of};
 use std::alloc::{AllocError, Global};
 use wh_cert::NoCertificate;
-use wh_find_steps::{copy_in_space, reduct_by, steps_of};
-use wh_loops::{Instance, certificate_of, find_instance};
-use wh_reached::{Entry, Listing, Origin, Visit, new_listing, steps_to, visits_of};
+use wh_loop_steps::{copy_in_space, reduct_by, steps_of};
+use wh_loop_starts::{Instance, certificate_of, find_instance};
+use wh_loop_reached::{Entry, Listing, Origin, Visit, new_listing, steps_to, visits_of};
 use wh_system::System;
 use wh_terms::{Step, Term};
 

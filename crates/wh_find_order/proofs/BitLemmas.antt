@@ -5,9 +5,9 @@ use Rattle.std.proofs.Math.Pow.{pow_mono}
 use Rattle.std.proofs.lemmas.List.{append-nil}
 use Rattle.std.proofs.lemmas.List.Elements.{All-nil, All-cons, All-head}
 use Rattle.wh_types.specs.Ty.{Ty}
-use Rattle.wh_inference.specs.FilterText.{WrittenFilter, keeps, picks, filter_of}
-use Rattle.wh_extended.specs.Filtered.{IncreasingFrom, IsProper}
-use Rattle.wh_ordering.specs.Filterings.{HasPlaces, IsProperAsWritten}
+use Rattle.wh_order_inference.specs.FilterText.{WrittenFilter, keeps, picks, filter_of}
+use Rattle.wh_order_extended.specs.Filtered.{IncreasingFrom, IsProper}
+use Rattle.wh_order_node.specs.Filterings.{HasPlaces, IsProperAsWritten}
 use Rattle.wh_order_space.specs.Bits.{first_bit, bit_count, places_from, number_from, filter_with, filter_by}
 use Rattle.wh_find_order.specs.Encodings.{PicksSort}
 

@@ -12,16 +12,16 @@ use Rattle.wh_pairs.proofs.ListLemmas.{map-map}
 use Rattle.wh_pairs.proofs.SetLemmas.{all_from_members}
 use Rattle.wh_pairs.specs.Marked.{AreMarked}
 use Rattle.wh_pairs.proofs.ByPlace as by
-use Rattle.wh_reduction.specs.TaskData.{TaskData}
+use Rattle.wh_reduction_pairs.specs.TaskData.{TaskData}
 use Rattle.wh_polycheck.specs.Marks.{marked_types}
-use Rattle.wh_inference.specs.FilterText.{WrittenFilter, keeps, picks}
-use Rattle.wh_inference.specs.Said.{written_filter}
-use Rattle.wh_ordering.specs.Filterings as f
-use Rattle.wh_ordering.specs.Filterings.{FilteringData, IsProperAsWritten}
-use Rattle.wh_ordering.specs.FilteringView.{mark_filter, filtering_data}
-use Rattle.wh_ordering.specs.declared.filters.Filters.{Filters}
-use Rattle.wh_ordering.specs.declared.filters.MarkFilter.{MarkFilter}
-use Rattle.wh_space.proofs.SpotLemmas.{at_append}
+use Rattle.wh_order_inference.specs.FilterText.{WrittenFilter, keeps, picks}
+use Rattle.wh_order_inference.specs.Said.{written_filter}
+use Rattle.wh_order_node.specs.Filterings as f
+use Rattle.wh_order_node.specs.Filterings.{FilteringData, IsProperAsWritten}
+use Rattle.wh_order_node.specs.FilteringView.{mark_filter, filtering_data}
+use Rattle.wh_order_node.specs.declared.filters.Filters.{Filters}
+use Rattle.wh_order_node.specs.declared.filters.MarkFilter.{MarkFilter}
+use Rattle.wh_poly_space.proofs.SpotLemmas.{at_append}
 use Rattle.wh_order_space.specs.Space.{symbol_count, IsLow}
 use Rattle.wh_order_space.specs.Bits.{bits_of, precedence_bits, filter_by, filter_with, number_from, places_from, bit_from, IsFilterBy, IsWritten}
 use Rattle.wh_find_order.specs.Encodings.{task_in, symbols_in, scopes_for, bits_for, PicksSort, IsEncoding, AreFiltersFrom}

@@ -9,18 +9,18 @@ use Rattle.wh_terms.specs.Rules.{RewriteRule, IsWellMade}
 use Rattle.wh_pairs.specs.PairData.{PairData}
 use Rattle.wh_pairs.specs.Marked.{HeadsASide}
 use Rattle.wh_pairs.proofs.ByPlace.{contains_at, remap}
-use Rattle.wh_reduction.specs.TaskData.{TaskData}
+use Rattle.wh_reduction_pairs.specs.TaskData.{TaskData}
 use Rattle.wh_polycheck.specs.Marks.{marked_types}
-use Rattle.wh_inference.specs.FilterText.{WrittenFilter, filter_of}
-use Rattle.wh_inference.specs.Inferences.{Inference}
-use Rattle.wh_ordering.specs.Ordering.{IsGoodPair}
-use Rattle.wh_extended.specs.ExtendedSides.{marked_number}
-use Rattle.wh_ordering.specs.Filterings.{FilteringData, MarkFilter, mark_among}
+use Rattle.wh_order_inference.specs.FilterText.{WrittenFilter, filter_of}
+use Rattle.wh_order_inference.specs.Inferences.{Inference}
+use Rattle.wh_order_node.specs.Ordering.{IsGoodPair}
+use Rattle.wh_order_extended.specs.ExtendedSides.{marked_number}
+use Rattle.wh_order_node.specs.Filterings.{FilteringData, MarkFilter, mark_among}
 use Rattle.wh_order.specs.TreeSides.{AreFilters, HasTypedCalls}
 use Rattle.wh_order.proofs.FilterLemmas.{symbol_filter, mark_filter_of}
 use Rattle.wh_order_local.specs.Only.{Only, AllOnly}
 use Rattle.wh_order_local.proofs.OrderLocal.{HasSame, rule_alike, pair_alike}
-use Rattle.wh_guesses.specs.Conditions.{Condition, covers_rule, covers_pair, some_strictly, IsCondition, of_rule, of_pair, HasSymbol, SomeHasSymbol, StandsInPair, UsesSymbol, UsesMark, UsesNumber}
+use Rattle.wh_poly_guesses.specs.Conditions.{Condition, covers_rule, covers_pair, some_strictly, IsCondition, of_rule, of_pair, HasSymbol, SomeHasSymbol, StandsInPair, UsesSymbol, UsesMark, UsesNumber}
 use Rattle.wh_order_lines.specs.Oriented.{OrientsRule, OrientsPair, OrientsStrictly}
 use Rattle.wh_order_space.specs.Space.{Meets}
 use Rattle.wh_find_order.proofs.SpaceLemmas.{all_filters, at_front}

@@ -15,33 +15,33 @@ use Rattle.wh_pairs.specs.PairData.{PairData}
 use Rattle.wh_pairs.proofs.Increasing.{one_place}
 use Rattle.wh_pairs.proofs.ByPlace.{contains_at, place_of, unmap, remap}
 use Rattle.wh_pairs.proofs.SetLemmas.{all_from_members}
-use Rattle.wh_reduction.specs.TaskData.{TaskData, IsTask}
-use Rattle.wh_reduction.specs.ReductionPair.{Evidence, IsRightRule, IsRightPair}
-use Rattle.wh_reduction.proofs.Numbers.{numbers_length}
+use Rattle.wh_reduction_pairs.specs.TaskData.{TaskData, IsTask}
+use Rattle.wh_reduction_pairs.specs.ReductionPair.{Evidence, IsRightRule, IsRightPair}
+use Rattle.wh_reduction_pairs.proofs.Numbers.{numbers_length}
 use Rattle.wh_polycheck.specs.Marks.{marked_types}
-use Rattle.wh_inference.specs.Inferences.{Inference, entries}
-use Rattle.wh_inference.specs.InferenceLimits.{InferenceFits}
-use Rattle.wh_inference.specs.FilterText.{WrittenFilter, keeps, picks, FilterFits}
-use Rattle.wh_extended.specs.Filtered.{IncreasingFrom}
-use Rattle.wh_extended.specs.Kinds as extended
-use Rattle.wh_ordering.specs.Filterings.{FilteringData, MarkFilter, IsProperAsWritten}
-use Rattle.wh_ordering.specs.Ordering.{IsGoodRule, IsGoodPair, by_inferences, AreNarrow, IsOrdering}
+use Rattle.wh_order_inference.specs.Inferences.{Inference, entries}
+use Rattle.wh_order_inference.specs.InferenceLimits.{InferenceFits}
+use Rattle.wh_order_inference.specs.FilterText.{WrittenFilter, keeps, picks, FilterFits}
+use Rattle.wh_order_extended.specs.Filtered.{IncreasingFrom}
+use Rattle.wh_order_extended.specs.Kinds as extended
+use Rattle.wh_order_node.specs.Filterings.{FilteringData, MarkFilter, IsProperAsWritten}
+use Rattle.wh_order_node.specs.Ordering.{IsGoodRule, IsGoodPair, by_inferences, AreNarrow, IsOrdering}
 use Rattle.wh_cert.specs.TermLimits.{IsSmall}
 use Rattle.wh_cert.specs.Written as w
 use Rattle.wh_cert.specs.Limits.{FilteringFits, FilterWithin, NodeFits, NodeWithin}
 use Rattle.wh_proof.specs.Looked.{SayFilters, SayMarkFilters, inferences_of}
 use Rattle.wh_proof.proofs.FilterLemmas.{as_many_filters, filters_named}
-use Rattle.wh_covering.proofs.Walks.{some_at}
-use Rattle.wh_guesses.specs.Conditions.{covers_rule, covers_pair, some_strictly, of_rule, of_pair, of_set}
-use Rattle.wh_guesses.specs.Found.{task_of}
-use Rattle.wh_guesses.proofs.IncreasingLemmas.{few_increasing}
+use Rattle.wh_poly_covering.proofs.Walks.{some_at}
+use Rattle.wh_poly_guesses.specs.Conditions.{covers_rule, covers_pair, some_strictly, of_rule, of_pair, of_set}
+use Rattle.wh_poly_guesses.specs.Found.{task_of}
+use Rattle.wh_poly_guesses.proofs.IncreasingLemmas.{few_increasing}
 use Rattle.wh_order_lines.specs.Oriented.{IsWithin}
 use Rattle.wh_order_lines.specs.OrderLines.{IsRuleLine}
 use Rattle.wh_order_lines.specs.OrderWalks.{AreRuleLines, ArePairLines, IsDropped, IsFailingRule, IsFailingPair}
 use Rattle.wh_order_space.specs.Space.{IsLow, IsOfSpace}
 use Rattle.wh_find_order.specs.Answers.{IsOrder}
 use Rattle.wh_find_order.specs.Trials.{IsTried, Fails}
-use Rattle.wh_guesses.proofs.LimitLemmas.{wide}
+use Rattle.wh_poly_guesses.proofs.LimitLemmas.{wide}
 
 -- a filter is within the limits of certificates
 

@@ -5,23 +5,23 @@ use Rattle.wh_terms.specs.Rules.{RewriteRule, IsWellMade}
 use Rattle.wh_pairs.specs.PairData.{PairData}
 use Rattle.wh_pairs.specs.Marked.{AreMarked}
 use Rattle.wh_pairs.proofs.ByPlace.{contains_at}
-use Rattle.wh_reduction.specs.TaskData.{TaskData}
-use Rattle.wh_ordering.specs.Filterings.{FilteringData, MarkFilter}
+use Rattle.wh_reduction_pairs.specs.TaskData.{TaskData}
+use Rattle.wh_order_node.specs.Filterings.{FilteringData, MarkFilter}
 use Rattle.wh_order.specs.TreeSides.{HasTypedCalls}
 use Rattle.wh_proof.proofs.InterpretationLemmas.{marked_one}
-use Rattle.wh_covering.proofs.Walks.{some_at}
+use Rattle.wh_poly_covering.proofs.Walks.{some_at}
 use Rattle.wh_sat_trail.specs.declared.literal.Literal.{Literal}
 use Rattle.wh_sat.specs.Learning.{Has}
 use Rattle.wh_sat.specs.Solving.{SolvesGiven, clause_true, literal_true}
 use Rattle.wh_sat.proofs.Assuring.{cases_bool, all_false}
-use Rattle.wh_guesses.specs.Conditions as g
-use Rattle.wh_guesses.specs.Conditions.{covers_rule, covers_pair, some_strictly, IsCondition, of_rule, of_pair, of_set}
+use Rattle.wh_poly_guesses.specs.Conditions as g
+use Rattle.wh_poly_guesses.specs.Conditions.{covers_rule, covers_pair, some_strictly, IsCondition, of_rule, of_pair, of_set}
 use Rattle.wh_order_space.specs.Space.{IsOfSpace, Meets, LetsGo, HasNoOrder}
 use Rattle.wh_order_space.specs.Bits.{IsWritten}
 use Rattle.wh_find_order.specs.Tried.{Condition, proper, line, IsOfSet, IsBitOf, FailsUnder, IsBlocked}
 use Rattle.wh_find_order.proofs.SpaceLemmas.{all_filters, filters_long, count_is, order_written, order_filters, filter_moved, one_filter}
 use Rattle.wh_find_order.proofs.Locality.{meets_moved}
-use Rattle.wh_blocking.proofs.NothingLemmas.{opposed, told}
+use Rattle.wh_poly_blocking.proofs.NothingLemmas.{opposed, told}
 
 -- a literal that is false tells the value of its variable
 

@@ -7,7 +7,7 @@ use Rattle.wh_terms.specs.Rules.{RewriteRule}
 use Rattle.wh_pairs.specs.PairData.{PairData}
 use Rattle.wh_pairs.proofs.MemberLemmas.{at_head, behind}
 use Rattle.wh_pairs.proofs.SetLemmas.{all_from_members}
-use Rattle.wh_reduction.specs.TaskData.{TaskData}
+use Rattle.wh_reduction_pairs.specs.TaskData.{TaskData}
 use Rattle.wh_poly.specs.Polynomials.{zero_poly}
 use Rattle.wh_polycheck.specs.Marks.{Mark}
 use Rattle.wh_polycheck.specs.Covering.{HaveTypedSides}
@@ -20,14 +20,14 @@ use Rattle.wh_sat.specs.Solving.{Solves, SolvesGiven}
 use Rattle.wh_sat.specs.State.{Extends, Sound, clauses_of, variables_of}
 use Rattle.wh_sat.specs.declared.learner.Learner.{Learner}
 use Rattle.wh_sat.proofs.Clashing.{at_place}
-use Rattle.wh_guesses.specs.Conditions as g
-use Rattle.wh_guesses.specs.Conditions.{IsCondition}
-use Rattle.wh_guesses.specs.Found.{task_of}
-use Rattle.wh_guesses.proofs.NodeLemmas.{whole_is}
-use Rattle.wh_blocking.specs.Literals.{literals_on}
-use Rattle.wh_blocking.proofs.BlockingLemmas.{given_extends, given_push}
-use Rattle.wh_blocking.proofs.EncodingLemmas.{uses_within, via}
-use Rattle.wh_blocking.proofs.LiteralLemmas.{IsAmong, literals_are}
+use Rattle.wh_poly_guesses.specs.Conditions as g
+use Rattle.wh_poly_guesses.specs.Conditions.{IsCondition}
+use Rattle.wh_poly_guesses.specs.Found.{task_of}
+use Rattle.wh_poly_guesses.proofs.NodeLemmas.{whole_is}
+use Rattle.wh_poly_blocking.specs.Literals.{literals_on}
+use Rattle.wh_poly_blocking.proofs.BlockingLemmas.{given_extends, given_push}
+use Rattle.wh_poly_blocking.proofs.EncodingLemmas.{uses_within, via}
+use Rattle.wh_poly_blocking.proofs.LiteralLemmas.{IsAmong, literals_are}
 use Rattle.wh_order_space.specs.Space.{HasNoOrder}
 use Rattle.wh_order_space.specs.Bits.{bit_count}
 use Rattle.wh_find_order.specs.Answers.{IsSpent}

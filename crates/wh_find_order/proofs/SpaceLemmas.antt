@@ -5,15 +5,15 @@ use Rattle.std.proofs.lemmas.List.Elements.{All-contains}
 use Rattle.std.proofs.lemmas.Option.{slice_get-get_or, slice_get_within}
 use Rattle.wh_types.specs.Ty.{Ty, arguments}
 use Rattle.wh_pairs.proofs.ByPlace.{contains_at, unmap, remap, some_one}
-use Rattle.wh_reduction.specs.TaskData.{TaskData}
+use Rattle.wh_reduction_pairs.specs.TaskData.{TaskData}
 use Rattle.wh_polycheck.specs.Marks.{marked_types}
 use Rattle.wh_polycheck.proofs.MoreInterpretations.{slice_get_behind}
-use Rattle.wh_inference.specs.FilterText.{WrittenFilter, keeps, picks}
-use Rattle.wh_ordering.specs.Filterings.{FilteringData, MarkFilter, IsProperAsWritten}
+use Rattle.wh_order_inference.specs.FilterText.{WrittenFilter, keeps, picks}
+use Rattle.wh_order_node.specs.Filterings.{FilteringData, MarkFilter, IsProperAsWritten}
 use Rattle.wh_order.specs.TreeSides.{AreFilters}
-use Rattle.wh_space.proofs.SpotLemmas.{at_append}
-use Rattle.wh_covering.proofs.Walks.{some_at}
-use Rattle.wh_guesses.specs.Coefficients.{scopes_of}
+use Rattle.wh_poly_space.proofs.SpotLemmas.{at_append}
+use Rattle.wh_poly_covering.proofs.Walks.{some_at}
+use Rattle.wh_poly_guesses.specs.Coefficients.{scopes_of}
 use Rattle.wh_order_space.specs.Space.{symbol_count, IsLow, IsOfSpace}
 use Rattle.wh_order_space.specs.Bits.{bits_of, precedence_bits, filter_by, bit_from, IsFilterBy, IsWritten}
 use Rattle.wh_order_space.proofs.FirstLemmas.{first_next}

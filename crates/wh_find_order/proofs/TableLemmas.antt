@@ -9,14 +9,14 @@ use Rattle.wh_types.specs.declared.simple_type.SimpleType.{SimpleType}
 use Rattle.wh_system.specs.WellMade.{IsWellMadeSystem}
 use Rattle.wh_pairs.specs.Marked.{AreMarked}
 use Rattle.wh_pairs.proofs.ListLemmas.{map-map}
-use Rattle.wh_reduction.specs.TaskData.{TaskData}
+use Rattle.wh_reduction_pairs.specs.TaskData.{TaskData}
 use Rattle.wh_polycheck.specs.Marks.{marked_types}
-use Rattle.wh_guesses.specs.Coefficients.{scopes_of}
-use Rattle.wh_guesses.specs.Tasks.{IsTaskOf}
-use Rattle.wh_guesses.specs.Uses.{AreAllUses}
-use Rattle.wh_guesses.specs.declared.uses.Uses.{Uses}
-use Rattle.wh_blocking.specs.Numbers.{AreNumbers}
-use Rattle.wh_blocking.proofs.EncodingLemmas.{numbers_long, numbers_used}
+use Rattle.wh_poly_guesses.specs.Coefficients.{scopes_of}
+use Rattle.wh_poly_guesses.specs.Tasks.{IsTaskOf}
+use Rattle.wh_poly_guesses.specs.Uses.{AreAllUses}
+use Rattle.wh_poly_guesses.specs.declared.uses.Uses.{Uses}
+use Rattle.wh_poly_blocking.specs.Numbers.{AreNumbers}
+use Rattle.wh_poly_blocking.proofs.EncodingLemmas.{numbers_long, numbers_used}
 use Rattle.wh_order_space.specs.Space.{symbol_count}
 use Rattle.wh_order_space.specs.Bits.{binary_length, first_bit}
 use Rattle.wh_find_order.specs.Encodings.{system_in, task_in, scopes_for, bits_for, IsEncoding}

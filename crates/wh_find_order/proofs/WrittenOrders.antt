@@ -4,9 +4,9 @@ use Rattle.std.proofs.Math.Nat.{pow-suc}
 use Rattle.std.proofs.lemmas.Bool.{cases_eq, eq-eqb, ne_eqb, lt-ltb, le-ltb}
 use Rattle.std.proofs.lemmas.List.Elements.{All-head, All-tail}
 use Rattle.wh_types.specs.Ty.{Ty, sort}
-use Rattle.wh_inference.specs.FilterText.{WrittenFilter, keeps, picks}
-use Rattle.wh_extended.specs.Filtered.{IncreasingFrom}
-use Rattle.wh_ordering.specs.Filterings.{IsProperAsWritten}
+use Rattle.wh_order_inference.specs.FilterText.{WrittenFilter, keeps, picks}
+use Rattle.wh_order_extended.specs.Filtered.{IncreasingFrom}
+use Rattle.wh_order_node.specs.Filterings.{IsProperAsWritten}
 use Rattle.std.proofs.lemmas.Option.{slice_get_within}
 use Rattle.wh_order_space.specs.Bits.{binary_length, bits_of, first_bit, places_from, number_from, filter_with, filter_by}
 

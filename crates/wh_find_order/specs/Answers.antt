@@ -3,10 +3,10 @@ use Rattle.std.specs.Prelude.{ℕ, ◌≡◌, ◌^◌, List, All, Contains, leng
 use Rattle.wh_system.specs.Systems.{SystemData}
 use Rattle.wh_pairs.specs.PairData.{PairData, IsIncreasing}
 use Rattle.wh_pairs.specs.Marked.{AreMarked}
-use Rattle.wh_reduction.specs.ReductionPair.{Evidence}
-use Rattle.wh_inference.specs.Inferences.{Inference}
-use Rattle.wh_ordering.specs.Filterings.{FilteringData}
-use Rattle.wh_ordering.specs.Ordering.{IsOrdering}
+use Rattle.wh_reduction_pairs.specs.ReductionPair.{Evidence}
+use Rattle.wh_order_inference.specs.Inferences.{Inference}
+use Rattle.wh_order_node.specs.Filterings.{FilteringData}
+use Rattle.wh_order_node.specs.Ordering.{IsOrdering}
 use Rattle.wh_cert.specs.Written as w
 use Rattle.wh_cert.specs.Limits.{NodeFits, NodeWithin}
 use Rattle.wh_cert.specs.Said.{said_order}
@@ -16,7 +16,7 @@ use Rattle.wh_proof.specs.Looked.{SaysNode}
 use Rattle.wh_sat_trail.specs.declared.literal.Literal.{Literal}
 use Rattle.wh_sat.specs.declared.solving.Search.{Search}
 use Rattle.wh_sat.specs.declared.solving.Search.TheVariants as search
-use Rattle.wh_guesses.specs.Found.{task_of}
+use Rattle.wh_poly_guesses.specs.Found.{task_of}
 use Rattle.wh_order_lines.specs.Oriented.{IsWithin}
 use Rattle.wh_order_space.specs.Space.{IsOfSpace, LetsGo, HasNoOrder}
 use Rattle.wh_find_order.specs.Tried.{Tried}

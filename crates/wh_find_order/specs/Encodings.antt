@@ -6,9 +6,9 @@ use Rattle.wh_system.specs.Systems.{SystemData}
 use Rattle.wh_system.specs.SystemView.{system_data}
 use Rattle.wh_system.specs.WellMade.{IsWellMadeSystem}
 use Rattle.wh_pairs.specs.Marked.{AreMarked}
-use Rattle.wh_reduction.specs.TaskData.{TaskData}
-use Rattle.wh_reduction.specs.TaskView.{task_data}
-use Rattle.wh_inference.specs.FilterText.{WrittenFilter, keeps, picks}
+use Rattle.wh_reduction_pairs.specs.TaskData.{TaskData}
+use Rattle.wh_reduction_pairs.specs.TaskView.{task_data}
+use Rattle.wh_order_inference.specs.FilterText.{WrittenFilter, keeps, picks}
 use Rattle.wh_sat_trail.specs.Assignment.{AllBelow}
 use Rattle.wh_sat_trail.specs.declared.literal.Literal.{Literal}
 use Rattle.wh_sat.specs.Solving.{Solves}
@@ -17,10 +17,10 @@ use Rattle.wh_sat.specs.Answers.{Answers}
 use Rattle.wh_sat.specs.declared.learner.Learner.{Learner}
 use Rattle.wh_sat.specs.declared.learner.Next.{Next}
 use Rattle.wh_sat.specs.declared.learner.Next.TheVariants.{Model}
-use Rattle.wh_blocking.specs.Sizes.{value_of}
-use Rattle.wh_guesses.specs.Coefficients.{scopes_of}
-use Rattle.wh_guesses.specs.Conditions.{Condition, IsCondition, UsesNumber}
-use Rattle.wh_guesses.specs.Tasks.{IsTaskOf}
+use Rattle.wh_poly_blocking.specs.Sizes.{value_of}
+use Rattle.wh_poly_guesses.specs.Coefficients.{scopes_of}
+use Rattle.wh_poly_guesses.specs.Conditions.{Condition, IsCondition, UsesNumber}
+use Rattle.wh_poly_guesses.specs.Tasks.{IsTaskOf}
 use Rattle.wh_order_space.specs.Spotted.{types_in}
 use Rattle.wh_order_space.specs.Bits.{bit_count, first_bit, precedence_bits, IsFilterBy}
 use Rattle.wh_find_order.specs.Tried.{FailsUnder, IsBlocked, proper}

@@ -1,12 +1,12 @@
 -- What an order, and what a guess comes to: a node, or a condition that fails.
 use Rattle.std.specs.Prelude.{ℕ, Bool, ◌+◌, All, length}
 use Rattle.wh_system.specs.SystemView.{system_data}
-use Rattle.wh_reduction.specs.TaskData.{TaskData}
-use Rattle.wh_reduction.specs.TaskView.{task_data}
-use Rattle.wh_reduction.specs.declared.task.Task.{Task}
-use Rattle.wh_ordering.specs.Filterings.{FilteringData, AreFiltersFor, AreProperSymbols, AreProperMarks}
+use Rattle.wh_reduction_pairs.specs.TaskData.{TaskData}
+use Rattle.wh_reduction_pairs.specs.TaskView.{task_data}
+use Rattle.wh_reduction_pairs.specs.declared.task.Task.{Task}
+use Rattle.wh_order_node.specs.Filterings.{FilteringData, AreFiltersFor, AreProperSymbols, AreProperMarks}
 use Rattle.wh_cert.specs.Said.{said_order}
-use Rattle.wh_guesses.specs.Conditions.{Condition, IsCondition}
+use Rattle.wh_poly_guesses.specs.Conditions.{Condition, IsCondition}
 use Rattle.wh_find_order.specs.Answers.{IsOrder}
 use Rattle.wh_order_space.specs.Space.{IsLow, Meets}
 use Rattle.wh_find_order.specs.Tried.{FailsUnder, line}

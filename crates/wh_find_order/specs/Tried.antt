@@ -1,15 +1,15 @@
 -- Lists of clauses on the bits of orders that a search by guesses makes: each shuts out a guess under which a condition
 -- fails, or follows from those before it.
 use Rattle.std.specs.Prelude.{ℕ, suc, ◌<◌, ◌≤◌, ◌≡◌, ◌⊎◌, ◌↔◌, Bool, false, List, [], length, take, get_or}
-use Rattle.wh_reduction.specs.TaskData.{TaskData}
-use Rattle.wh_inference.specs.FilterText.{WrittenFilter}
-use Rattle.wh_ordering.specs.Filterings.{FilteringData}
+use Rattle.wh_reduction_pairs.specs.TaskData.{TaskData}
+use Rattle.wh_order_inference.specs.FilterText.{WrittenFilter}
+use Rattle.wh_order_node.specs.Filterings.{FilteringData}
 use Rattle.wh_sat_trail.specs.declared.literal.Literal.{Literal}
 use Rattle.wh_sat.specs.Learning.{Has, IsLearnt}
 use Rattle.wh_sat.specs.Solving.{Solves, literal_true}
-use Rattle.wh_guesses.specs.Coefficients.{scopes_of}
-use Rattle.wh_guesses.specs.Conditions as g
-use Rattle.wh_guesses.specs.Conditions.{IsCondition, UsesNumber}
+use Rattle.wh_poly_guesses.specs.Coefficients.{scopes_of}
+use Rattle.wh_poly_guesses.specs.Conditions as g
+use Rattle.wh_poly_guesses.specs.Conditions.{IsCondition, UsesNumber}
 use Rattle.wh_order_space.specs.Space.{Meets}
 use Rattle.wh_order_space.specs.Bits.{precedence_bits, bit_count, bit_from, IsFilterBy, IsWritten}
 

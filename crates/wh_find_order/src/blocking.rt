@@ -3,7 +3,7 @@
 
 ghost use Rattle.std.specs.Prelude.{◌≡◌, ◌+◌, ◌<◌, ◌≤◌, IfOk, OnOk, length};
 ghost use Rattle.wh_types.specs.Limits.{most_pairs};
-ghost use Rattle.wh_blocking.specs.Sizes.{value_of};
+ghost use Rattle.wh_poly_blocking.specs.Sizes.{value_of};
 ghost use Rattle.wh_sat.specs.Solving.{Solves};
 ghost use Rattle.wh_sat.specs.State.{Extends, Sound, clauses_of};
 ghost use Rattle.wh_find_order.specs.Answers.{IsAnswer};
@@ -16,7 +16,7 @@ use crate::encoding::Encoding;
 use crate::failing::failing_line;
 use crate::node::{Weighing, node_of_order};
 use std::alloc::{AllocError, Global};
-use wh_blocking::{Bits, Held, clause_of, copy_clauses};
+use wh_poly_blocking::{Bits, Held, clause_of, copy_clauses};
 use wh_cert::OrderNode;
 use wh_sat::{Learner, Next, Search};
 use wh_sat_trail::{Clause, Clauses, Formula};

@@ -5,13 +5,13 @@
 
 ghost use Rattle.std.specs.Bool.{OnTrue};
 ghost use Rattle.std.specs.Prelude.{◌≡◌, ◌≤◌, IfOk, IfSome, OnOk, length, true};
-ghost use Rattle.wh_blocking.specs.Sizes.{value_of};
+ghost use Rattle.wh_poly_blocking.specs.Sizes.{value_of};
 ghost use Rattle.wh_sat.specs.Solving.{Solves, clause_true, literal_true};
 
 use crate::blocking::Failing;
 use crate::encoding::Encoding;
 use std::alloc::{AllocError, Global};
-use wh_blocking::bit;
+use wh_poly_blocking::bit;
 use wh_random::Random;
 use wh_sat_trail::{Clause, Literal};
 use wh_types::SimpleType;

@@ -2,18 +2,18 @@
 
 ghost use Rattle.std.specs.Prelude.{ℕ, ◌≡◌, ◌+◌, ◌<◌, ◌≤◌, IfOk, MatchOption, length, map};
 ghost use Rattle.wh_types.specs.Outcome.{MatchOr};
-ghost use Rattle.wh_inference.specs.FilterText.{WrittenFilter};
-ghost use Rattle.wh_inference.specs.Said.{written_filter};
-ghost use Rattle.wh_ordering.specs.FilteringView.{filtering_data};
-ghost use Rattle.wh_blocking.specs.Sizes.{value_of};
+ghost use Rattle.wh_order_inference.specs.FilterText.{WrittenFilter};
+ghost use Rattle.wh_order_inference.specs.Said.{written_filter};
+ghost use Rattle.wh_order_node.specs.FilteringView.{filtering_data};
+ghost use Rattle.wh_poly_blocking.specs.Sizes.{value_of};
 ghost use Rattle.wh_order_space.specs.Bits.{IsFilterBy, IsWritten};
 ghost use Rattle.wh_find_order.specs.Encodings.{AreFiltersFrom, HasNoFilter, IsEncoding, symbols_in, task_in};
 
 use crate::encoding::Encoding;
 use crate::filters::{filter_by, number_by, picks_sort};
 use std::alloc::{AllocError, Global};
-use wh_inference::Filter;
-use wh_ordering::{FilterList, Filters, MarkFilter, MarkFilterList};
+use wh_order_inference::Filter;
+use wh_order_node::{FilterList, Filters, MarkFilter, MarkFilterList};
 use wh_types::Or;
 
 /// The order that bits with these values write; the cause is the number of the first symbol for which they write no

@@ -5,20 +5,20 @@ ghost use Rattle.wh_types.specs.Erase.{ty};
 ghost use Rattle.wh_types.specs.Ty.{arguments};
 ghost use Rattle.wh_pairs.specs.Marked.{AreMarked};
 ghost use Rattle.wh_polycheck.specs.Marks.{marked_types};
-ghost use Rattle.wh_reduction.specs.TaskView.{task_data};
+ghost use Rattle.wh_reduction_pairs.specs.TaskView.{task_data};
 ghost use Rattle.wh_system.specs.SystemView.{system_data};
-ghost use Rattle.wh_guesses.specs.Coefficients as g;
-ghost use Rattle.wh_guesses.specs.Tasks.{IsTaskOf};
+ghost use Rattle.wh_poly_guesses.specs.Coefficients as g;
+ghost use Rattle.wh_poly_guesses.specs.Tasks.{IsTaskOf};
 ghost use Rattle.wh_find_order.specs.Encodings.{IsEncoding};
 ghost use Rattle.wh_order_space.specs.Spotted.{types_in};
 
 use crate::tables::precedence_bits;
 use std::alloc::{AllocError, Global};
-use wh_blocking::numbers_of_conditions;
-use wh_guesses::{arguments_of, uses_of};
+use wh_poly_blocking::numbers_of_conditions;
+use wh_poly_guesses::{arguments_of, uses_of};
 use wh_order_space::first_bits;
 use wh_polycheck::kind_of_mark;
-use wh_reduction::Task;
+use wh_reduction_pairs::Task;
 use wh_system::System;
 use wh_types::{SimpleType, counted};
 

@@ -1,16 +1,16 @@
 //! Conditions on lines that fail under an order, where they are not known to hold.
 
 ghost use Rattle.std.specs.Prelude.{IfOk, IfSome};
-ghost use Rattle.wh_ordering.specs.FilteringView.{filtering_data};
+ghost use Rattle.wh_order_node.specs.FilteringView.{filtering_data};
 ghost use Rattle.wh_find_order.specs.Encodings.{IsEncoding, task_in};
 ghost use Rattle.wh_find_order.specs.Trials.{Fails, IsTried};
 
 use crate::encoding::Encoding;
 use crate::node::number_of_pair;
 use std::alloc::{AllocError, Global};
-use wh_blocking::{Bits, Held};
+use wh_poly_blocking::{Bits, Held};
 use wh_order_lines::{lacks_pair_line, lacks_rule_line};
-use wh_ordering::Filters;
+use wh_order_node::Filters;
 
 /// The number of a condition on a line that fails under the order, which these bits write. Those that are known to hold
 /// are passed over, and so is the last one, that some pair shrinks.

@@ -3,16 +3,16 @@
 ghost use Rattle.std.specs.Prelude.{ℕ, ◌≡◌, ◌↔◌, ◌+◌, ◌*◌, ◌<◌, ◌≤◌, ◌^◌, IfOk, IsTrue, MatchOption, None, Some, slice_get};
 ghost use Rattle.wh_types.specs.Erase.{ty, tys};
 ghost use Rattle.wh_types.specs.Ty.{sort};
-ghost use Rattle.wh_inference.specs.Said.{written_filter};
-ghost use Rattle.wh_ordering.specs.Filterings.{HasPlaces};
-ghost use Rattle.wh_blocking.specs.Sizes.{value_of};
+ghost use Rattle.wh_order_inference.specs.Said.{written_filter};
+ghost use Rattle.wh_order_node.specs.Filterings.{HasPlaces};
+ghost use Rattle.wh_poly_blocking.specs.Sizes.{value_of};
 ghost use Rattle.wh_order_space.specs.Bits as written;
 ghost use Rattle.wh_order_space.specs.Bits.{number_from, places_from};
 ghost use Rattle.wh_find_order.specs.Encodings.{PicksSort};
 
 use std::alloc::{AllocError, Global};
-use wh_blocking::bit;
-use wh_inference::Filter;
+use wh_poly_blocking::bit;
+use wh_order_inference::Filter;
 use wh_types::{Numbers, SimpleType};
 
 /// The filter that the bits from one on write for a symbol with so many arguments, if they write one.

@@ -2,20 +2,20 @@
 
 ghost use Rattle.std.specs.Prelude.{ℕ, ◌+◌, ◌≡◌, ◌≢◌, ◌<◌, ◌≤◌, [], Contains, IfOk, Some, length, map, slice_get};
 ghost use Rattle.wh_types.specs.Limits.{most_pairs};
-ghost use Rattle.wh_reduction.specs.TaskView.{task_data};
-ghost use Rattle.wh_inference.specs.Said.{inference};
-ghost use Rattle.wh_ordering.specs.FilteringView.{filtering_data};
-ghost use Rattle.wh_guesses.specs.Tasks.{IsTaskOf};
+ghost use Rattle.wh_reduction_pairs.specs.TaskView.{task_data};
+ghost use Rattle.wh_order_inference.specs.Said.{inference};
+ghost use Rattle.wh_order_node.specs.FilteringView.{filtering_data};
+ghost use Rattle.wh_poly_guesses.specs.Tasks.{IsTaskOf};
 ghost use Rattle.wh_order_lines.specs.OrderWalks.{AreLinesOfPairs, AreRuleLines};
 ghost use Rattle.wh_find_order.specs.Trials.{IsTried, Weighs};
 
 use std::alloc::{AllocError, Global};
 use wh_cert::OrderNode;
-use wh_inference::Inferences;
+use wh_order_inference::Inferences;
 use wh_order_lines::{PairLines, pair_line_fits, pair_lines, rule_line_fits, rule_lines};
-use wh_ordering::Filters;
+use wh_order_node::Filters;
 use wh_proof::{lines_of_filters, lines_of_mark_filters};
-use wh_reduction::Task;
+use wh_reduction_pairs::Task;
 use wh_types::Or;
 
 /// What an order comes to.

@@ -6,17 +6,17 @@ ghost use Rattle.wh_pairs.specs.SystemPairs.{HasPairs};
 ghost use Rattle.wh_pairs.specs.Views.{pairs_data};
 ghost use Rattle.wh_system.specs.SystemView.{system_data};
 ghost use Rattle.wh_pairs.specs.Marked.{AreMarked};
-ghost use Rattle.wh_reduction.specs.TaskView.{task_data};
-ghost use Rattle.wh_guesses.specs.Tasks.{IsTaskOf};
-ghost use Rattle.wh_blocking.specs.Answers.{IsAnswer};
+ghost use Rattle.wh_reduction_pairs.specs.TaskView.{task_data};
+ghost use Rattle.wh_poly_guesses.specs.Tasks.{IsTaskOf};
+ghost use Rattle.wh_poly_blocking.specs.Answers.{IsAnswer};
 
 use std::alloc::{AllocError, Global};
-use wh_blocking::find_by_guesses;
+use wh_poly_blocking::find_by_guesses;
 use wh_cert::Node;
-use wh_climb::{Climbed, climb};
+use wh_poly_climb::{Climbed, climb};
 use wh_pairs::{PairList, PairSet, marked_symbols};
-use wh_ranges::has_none;
-use wh_reduction::{Task, all_rules};
+use wh_poly_ranges::has_none;
+use wh_reduction_pairs::{Task, all_rules};
 use wh_sat::Search;
 use wh_system::System;
 

@@ -6,9 +6,9 @@ use Rattle.wh_pairs.specs.declared.pair.Pair.{Pair}
 use Rattle.wh_pairs.proofs.ByPlace.{read, read_map}
 use Rattle.wh_intern.specs.TableTrees.{trees}
 use Rattle.wh_intern.specs.declared.sides.Sides.{Sides}
-use Rattle.wh_numbered.specs.NumberedSides.{AreSidesOf}
-use Rattle.wh_numbered.specs.Numberings.{IsNumbering}
-use Rattle.wh_numbered.specs.declared.numbered.Numbered.{Numbered}
+use Rattle.wh_intern_pairs.specs.NumberedSides.{AreSidesOf}
+use Rattle.wh_intern_pairs.specs.Numberings.{IsNumbering}
+use Rattle.wh_intern_pairs.specs.declared.numbered.Numbered.{Numbered}
 
 pub sides_there : (n : Numbered) (xs : List Pair) (k : ℕ) (ss : List Sides) (s : Sides) (x : Pair) → IsNumbering n (map pair_data xs) → k < length xs
     → ss ≡ n.sides → s ≡ get_or ss k s → x ≡ get_or xs k x → AreSidesOf (trees n.table) s (pair_data x)

@@ -2,7 +2,7 @@
 use Rattle.std.specs.Prelude.{IfSome}
 use Rattle.wh_pairs.specs.PairData.{pair_data}
 use Rattle.wh_intern.specs.TableTrees.{trees}
-use Rattle.wh_numbered.specs.NumberedSides.{AreSidesOf}
+use Rattle.wh_intern_pairs.specs.NumberedSides.{AreSidesOf}
 use Rattle.wh_find_subterm.specs.declared.sight.Sight.{Sight}
 
 -- the numbers, if there are any, are those of the sides of the pair

@@ -2,7 +2,7 @@
 
 ghost use Rattle.std.specs.Prelude.{◌+◌, ◌<◌, ◌≤◌, ◌^◌, ℕ, All, IfOk, IfSome, OnOk, length, map};
 ghost use Rattle.wh_pairs.specs.PairData.{pair_data};
-ghost use Rattle.wh_numbered.specs.Numberings.{IsNumbering};
+ghost use Rattle.wh_intern_pairs.specs.Numberings.{IsNumbering};
 ghost use Rattle.wh_find_subterm.specs.Rows.{row_of};
 ghost use Rattle.wh_find_subterm.specs.Cases.{Adds, AreCases, IsCase, spot, spots, spots_alike, spots_apart, spots_beside, spots_of};
 ghost use Rattle.wh_find_subterm.specs.Sights.{IsSight};
@@ -11,7 +11,7 @@ ghost use Rattle.wh_find_subterm.specs.declared.rows.Row.{Row};
 use crate::rows::{Row, row_of};
 use crate::sight::{Sight, relation_in, sight_of};
 use std::alloc::{AllocError, Global};
-use wh_numbered::Numbered;
+use wh_intern_pairs::Numbered;
 use wh_pairs::Pair;
 use wh_subterm::Relation;
 

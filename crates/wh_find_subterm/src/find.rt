@@ -4,7 +4,7 @@ ghost use Rattle.std.specs.Prelude.{◌≢◌, ◌≡◌, ◌+◌, ◌<◌, ◌^
 ghost use Rattle.wh_pairs.specs.PairData.{IsIncreasing, pair_data};
 ghost use Rattle.wh_system.specs.SystemView.{system_data};
 ghost use Rattle.wh_subterm.specs.SubtermRows.{chosen};
-ghost use Rattle.wh_numbered.specs.Numberings.{IsNumbering};
+ghost use Rattle.wh_intern_pairs.specs.Numberings.{IsNumbering};
 ghost use Rattle.wh_sat_trail.specs.Propagation.{Within};
 ghost use Rattle.wh_find_subterm.specs.Formula.{IsProjections};
 ghost use Rattle.wh_find_subterm.specs.Found.{IsAnswer};
@@ -14,7 +14,7 @@ use crate::formula::formula_of;
 use crate::reading::{below_under, choices_by};
 use crate::rows::{Row, rows_of};
 use std::alloc::{AllocError, Global};
-use wh_numbered::Numbered;
+use wh_intern_pairs::Numbered;
 use wh_pairs::{Pair, PairList, PairSet, marked_symbols};
 use wh_sat::{Outcome, Search, solve_owned};
 use wh_sat_trail::Formula;

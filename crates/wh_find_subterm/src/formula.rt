@@ -2,7 +2,7 @@
 
 ghost use Rattle.std.specs.Prelude.{◌≡◌, ◌+◌, ◌<◌, ◌≤◌, ◌^◌, ℕ, All, IfOk, IfSome, length, map};
 ghost use Rattle.wh_pairs.specs.PairData.{pair_data};
-ghost use Rattle.wh_numbered.specs.Numberings.{IsNumbering};
+ghost use Rattle.wh_intern_pairs.specs.Numberings.{IsNumbering};
 ghost use Rattle.wh_find_subterm.specs.Clauses.{clauses_of};
 ghost use Rattle.wh_find_subterm.specs.Formula.{IsFormula};
 ghost use Rattle.wh_find_subterm.specs.Rows.{row_of};
@@ -11,7 +11,7 @@ use crate::cases::{Case, cases_of};
 use crate::clauses::{add_fourth, add_one_chosen, add_only_one_chosen, add_third, some_of};
 use crate::rows::Rows;
 use std::alloc::{AllocError, Global};
-use wh_numbered::Numbered;
+use wh_intern_pairs::Numbered;
 use wh_pairs::Pair;
 use wh_sat_trail::{Clauses, Formula};
 

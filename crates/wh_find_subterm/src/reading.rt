@@ -2,14 +2,14 @@
 
 ghost use Rattle.std.specs.Prelude.{◌≡◌, ◌+◌, ◌<◌, ◌≤◌, ◌^◌, ℕ, false, All, IfOk, IfSome, get_or, length, map};
 ghost use Rattle.wh_pairs.specs.PairData.{IsIncreasing, pair_data};
-ghost use Rattle.wh_numbered.specs.Numberings.{IsNumbering};
+ghost use Rattle.wh_intern_pairs.specs.Numberings.{IsNumbering};
 ghost use Rattle.wh_subterm.specs.SubtermRows.{chosen, chosen_symbols};
 ghost use Rattle.wh_find_subterm.specs.Reading.{IsBelowSet, chosen_by, first_true};
 
 use crate::rows::Row;
 use crate::sight::{is_below_in, sight_of};
 use std::alloc::{AllocError, Global};
-use wh_numbered::Numbered;
+use wh_intern_pairs::Numbered;
 use wh_pairs::{Pair, PairSet};
 use wh_subterm::{Choice, Projection};
 

@@ -5,11 +5,11 @@ ghost use Rattle.wh_pairs.specs.PairData.{IsIncreasing, pair_data};
 ghost use Rattle.wh_subterm.specs.Projections.{Below};
 ghost use Rattle.wh_subterm.specs.Relations.{Relates};
 ghost use Rattle.wh_subterm.specs.SubtermRows.{chosen, chosen_symbols};
-ghost use Rattle.wh_numbered.specs.Numberings.{IsNumbering};
+ghost use Rattle.wh_intern_pairs.specs.Numberings.{IsNumbering};
 ghost use Rattle.wh_find_subterm.specs.Sights.{IsSight};
 
 use wh_intern::{Sides, Table};
-use wh_numbered::{Numbered, is_below_by_number, relation_by_number};
+use wh_intern_pairs::{Numbered, is_below_by_number, relation_by_number};
 use wh_pairs::Pair;
 use wh_subterm::{Choice, Relation, is_below, relation_at};
 

@@ -4,10 +4,10 @@ use Rattle.std.specs.Prelude.{codes}
 use Rattle.std.specs.List.{range_with_len}
 use Rattle.std.proofs.lemmas.List.Elements.{All-nil, All-cons, All-append, All-map}
 use Rattle.wh_text.specs.Words.{IsName}
-use Rattle.wh_parts.specs.Parts.{RFun, RMeta, RRule}
+use Rattle.wh_system_parts.specs.Parts.{RFun, RMeta, RRule}
 use Rattle.wh_system.specs.Nesting.{raw_nesting, RawTypesNestEach, RawTypesNestWithin}
-use Rattle.wh_making.specs.Proper.{AreProper}
-use Rattle.wh_making.specs.CanonicalParts.{raw_name}
+use Rattle.wh_system_making.specs.Proper.{AreProper}
+use Rattle.wh_system_making.specs.CanonicalParts.{raw_name}
 use Rattle.wh_gen.specs.Family.{sort_names}
 use Rattle.wh_gen.specs.RawFamily.{raw_nat, raw_list, raw_step, raw_onto_lists, raw_fun, raw_f, raw_x_meta, raw_y_meta, raw_second_right, raw_first_rule, raw_second_rule, raw_base, raw_map_fun, raw_rules_of_map, raw_rules, raw_family}
 use Rattle.wh_gen.proofs.RangeLists.{all_mapped, all_joined}

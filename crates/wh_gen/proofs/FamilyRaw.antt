@@ -3,9 +3,9 @@ use Rattle.std.proofs.Common.{◌≡◌, ℕ, zero, suc, ◌+◌, ◌<◌, ◌�
 use Rattle.std.specs.Prelude.{codes}
 use Rattle.std.specs.List.{flat_map, range_with_len}
 use Rattle.std.proofs.lemmas.List.FromFn.{get_or-map-range_with_len}
-use Rattle.wh_parts.specs.Parts.{RRule}
+use Rattle.wh_system_parts.specs.Parts.{RRule}
 use Rattle.wh_system.specs.Canonical.{name_at}
-use Rattle.wh_making.specs.CanonicalParts.{raw_name, raw_funs_of, raw_rule_of, raw_rules_of, canonical}
+use Rattle.wh_system_making.specs.CanonicalParts.{raw_name, raw_funs_of, raw_rule_of, raw_rules_of, canonical}
 use Rattle.wh_gen.specs.Family.{sort_names, map_name, map_type, fun_names, fun_types, first_rule, second_rule, rules_of, names_of_metas, gen_data}
 use Rattle.wh_gen.specs.RawFamily.{raw_plain, raw_map_of, raw_mapped_list, raw_second_left, raw_f, raw_x_meta, raw_y_meta, raw_first_rule, raw_second_rule, raw_base, raw_map_fun, raw_rules_of_map, raw_family}
 

@@ -1,12 +1,12 @@
 -- What the raw parts of a generated system say: that system.
 use Rattle.std.proofs.Common.{◌≡◌, ℕ, ◌≤◌, None, sym, subst, ◌∙◌}
-use Rattle.wh_parts.specs.Parts.{RParts}
-use Rattle.wh_parts.specs.RuleTests.{refusal}
+use Rattle.wh_system_parts.specs.Parts.{RParts}
+use Rattle.wh_system_parts.specs.RuleTests.{refusal}
 use Rattle.wh_system.specs.Systems.{SystemData}
-use Rattle.wh_making.specs.Says.{Says}
-use Rattle.wh_making.specs.Proper.{AreProper}
-use Rattle.wh_making.proofs.SystemMade.{one_system}
-use Rattle.wh_making.proofs.CanonicalLaw.{canonical_passes, canonical_says}
+use Rattle.wh_system_making.specs.Says.{Says}
+use Rattle.wh_system_making.specs.Proper.{AreProper}
+use Rattle.wh_system_making.proofs.SystemMade.{one_system}
+use Rattle.wh_system_making.proofs.CanonicalLaw.{canonical_passes, canonical_says}
 use Rattle.wh_gen.specs.Family.{gen_data}
 use Rattle.wh_gen.specs.RawFamily.{raw_family}
 use Rattle.wh_gen.proofs.FamilyMade.{family_made}

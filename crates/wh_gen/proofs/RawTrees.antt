@@ -3,9 +3,9 @@ use Rattle.std.proofs.Common.{◌≡◌, ℕ, List}
 use Rattle.wh_text.specs.RawTree.{RTy, RTys}
 use Rattle.wh_text.specs.Erase.{rty, rtys}
 use Rattle.wh_text.specs.declared.raw.RawType.{RawType}
-use Rattle.wh_parts.specs.Erase.{rname, rmeta}
-use Rattle.wh_parts.specs.declared.parts.RawName.{RawName}
-use Rattle.wh_making.specs.CanonicalParts.{raw_name}
+use Rattle.wh_system_parts.specs.Erase.{rname, rmeta}
+use Rattle.wh_system_parts.specs.declared.parts.RawName.{RawName}
+use Rattle.wh_system_making.specs.CanonicalParts.{raw_name}
 use Rattle.wh_gen.specs.RawFamily.{raw_meta}
 
 pub rmeta_of : (raw : RawName) (args : List RawType) (kind : RawType) (name : List ℕ) (as_well : RTys) (out : RTy) → rname raw ≡ raw_name name → rtys args ≡ as_well → rty kind ≡ out

@@ -3,8 +3,8 @@
 use Rattle.std.specs.Prelude.{ℕ, zero, suc, List, [], ◌∷◌, ◌++◌, map, codes}
 use Rattle.std.specs.List.{flat_map, range_with_len}
 use Rattle.wh_text.specs.RawTree.{RTy, raw_type, RTys, no_types, more_types, numbered_binder, RTm, named, numbered, meta, lam, spine, RTms, none, more}
-use Rattle.wh_parts.specs.Parts.{RFun, RMeta, RRule, RParts}
-use Rattle.wh_making.specs.CanonicalParts.{raw_name}
+use Rattle.wh_system_parts.specs.Parts.{RFun, RMeta, RRule, RParts}
+use Rattle.wh_system_making.specs.CanonicalParts.{raw_name}
 use Rattle.wh_gen.specs.Family.{sort_names, map_name}
 
 -- types

@@ -5,15 +5,15 @@ ghost use Rattle.std.specs.List.{range_with_len};
 ghost use Rattle.wh_text.specs.Erase.{rty, rtys};
 ghost use Rattle.wh_text.specs.RawTree.{no_types};
 ghost use Rattle.wh_text.specs.Words.{IsWord};
-ghost use Rattle.wh_parts.specs.Erase.{rname, rfun, rmeta};
-ghost use Rattle.wh_making.specs.CanonicalParts.{raw_name};
+ghost use Rattle.wh_system_parts.specs.Erase.{rname, rfun, rmeta};
+ghost use Rattle.wh_system_making.specs.CanonicalParts.{raw_name};
 ghost use Rattle.wh_gen.specs.Family.{sort_names};
 ghost use Rattle.wh_gen.specs.RawFamily.{raw_fun, raw_meta, raw_f, raw_base, raw_map_fun};
 
 use crate::terms::map_name;
 use crate::types::{list, nat, onto_lists, step};
 use std::alloc::{AllocError, Global};
-use wh_parts::{RawFun, RawFuns, RawMeta, RawName, RawNames};
+use wh_system_parts::{RawFun, RawFuns, RawMeta, RawName, RawNames};
 use wh_text::{Name, RawType, RawTypes};
 
 // A declared name.

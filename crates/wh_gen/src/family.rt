@@ -3,7 +3,7 @@
 ghost use Rattle.std.specs.Prelude.{◌≡◌, ◌≤◌, IfOk};
 ghost use Rattle.wh_types.specs.Limits.{most_generated};
 ghost use Rattle.wh_types.specs.Outcome.{MatchOr};
-ghost use Rattle.wh_parts.specs.Erase.{rparts};
+ghost use Rattle.wh_system_parts.specs.Erase.{rparts};
 ghost use Rattle.wh_system.specs.SystemView.{system_data};
 ghost use Rattle.wh_gen.specs.Family.{gen_data, IsOutOfRange};
 ghost use Rattle.wh_gen.specs.RawFamily.{raw_family};
@@ -11,8 +11,8 @@ ghost use Rattle.wh_gen.specs.RawFamily.{raw_family};
 use crate::declarations::{funs, sorts};
 use crate::rules::rules;
 use std::alloc::{AllocError, Global};
-use wh_making::system_of;
-use wh_parts::Parts;
+use wh_system_making::system_of;
+use wh_system_parts::Parts;
 use wh_system::System;
 use wh_types::Or;
 

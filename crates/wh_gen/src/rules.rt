@@ -2,7 +2,7 @@
 
 ghost use Rattle.std.specs.Prelude.{◌≡◌, ◌∷◌, [], ◌++◌, IfOk, OnOk, map};
 ghost use Rattle.wh_text.specs.Erase.{rtm};
-ghost use Rattle.wh_parts.specs.Erase.{rmeta, rrule};
+ghost use Rattle.wh_system_parts.specs.Erase.{rmeta, rrule};
 ghost use Rattle.wh_gen.specs.Family.{map_name};
 ghost use Rattle.wh_gen.specs.RawFamily.{raw_f, raw_x_meta, raw_y_meta, raw_mapped_head, raw_mapped_tail, raw_mapped_list, raw_first_left, raw_any_list, raw_second_left, raw_second_right, raw_first_rule, raw_second_rule, raw_rules};
 
@@ -10,7 +10,7 @@ use crate::declarations::{function_meta, plain_meta};
 use crate::terms::{cons, image, map_name, map_of, plain};
 use crate::types::{list, nat};
 use std::alloc::{AllocError, Global};
-use wh_parts::{RawMetas, RawRule, RawRules};
+use wh_system_parts::{RawMetas, RawRule, RawRules};
 use wh_text::RawTerm;
 
 // The meta-variable `F`.

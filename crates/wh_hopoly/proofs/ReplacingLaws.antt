@@ -10,7 +10,7 @@ use Rattle.wh_hopoly.specs.Evaluation.{Run, one, next, without, down, type_at, w
 use Rattle.wh_poly.specs.Limits.{Exceeds}
 use Rattle.wh_poly.specs.Excesses.{ExceedsAs}
 use Rattle.wh_hopoly.specs.Replacements.{head_by, replace_factor, product_with, apply_at, NormalFor, Replaces}
-use Rattle.wh_arithmetic.specs.Totals.{total, HasOrderedParts}
+use Rattle.wh_poly_arithmetic.specs.Totals.{total, HasOrderedParts}
 use Rattle.wh_poly.specs.Erase.{poly, atoms, polys, sum_of, product_of, arguments_of}
 use Rattle.wh_poly.specs.declared.excess.Excess.{Excess}
 use Rattle.wh_poly.specs.declared.excess.Excess.TheVariants as excess
@@ -18,7 +18,7 @@ use Rattle.wh_hopoly.specs.Outcomes.{ComesTo, PassesLimit}
 use Rattle.wh_poly.specs.declared.polynomial.Poly.{Poly}
 use Rattle.wh_poly.specs.declared.polynomial.Monomial.{Monomial, out-Monomial}
 use Rattle.wh_poly.specs.declared.polynomial.Atom.{Atom, out-Atom}
-use Rattle.wh_arithmetic.specs.declared.totals.Total.{Total}
+use Rattle.wh_poly_arithmetic.specs.declared.totals.Total.{Total}
 use Rattle.wh_poly.proofs.Walks.{sum_drop, sum_ended, product_drop, product_ended, arguments_drop, arguments_ended}
 use Rattle.wh_poly.proofs.Pushes.{arguments_followed_by, arguments_of_append}
 use Rattle.wh_poly.proofs.AddedLaws.{followed_assoc, followed_by_none}

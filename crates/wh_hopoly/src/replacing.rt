@@ -14,7 +14,7 @@ ghost use Rattle.wh_poly.specs.Polynomials.{zero_poly, Ordered, Normal, NormalFa
 ghost use Rattle.wh_poly.specs.Arithmetic.{constant};
 ghost use Rattle.wh_hopoly.specs.Evaluation.{one, down, applied as applied_run, replace as replace_run, replace_factors as factors_run, replace_arguments as arguments_run};
 ghost use Rattle.wh_hopoly.specs.Replacements.{head_of, replace_factor as factor_run, product_with, apply_at, NormalFor, Fits, value_at, Keeps};
-ghost use Rattle.wh_arithmetic.specs.Growing.{grown, HasRoom};
+ghost use Rattle.wh_poly_arithmetic.specs.Growing.{grown, HasRoom};
 ghost use Rattle.wh_poly.specs.Limits.{Exceeds};
 ghost use Rattle.wh_poly.specs.Excesses.{ExceedsAs};
 ghost use Rattle.wh_hopoly.specs.Outcomes.{ComesTo, ComesToArguments, PassesLimit};
@@ -23,8 +23,8 @@ ghost use Rattle.wh_poly.specs.declared.polynomial.Atom.{out-Atom};
 use crate::renumbering::raise;
 use crate::scope::{Scope, find};
 use std::alloc::Global;
-use wh_arithmetic::{Growing, Total, finish, multiply_by, multiply_by_variable, start};
-use wh_limits::tested;
+use wh_poly_arithmetic::{Growing, Total, finish, multiply_by, multiply_by_variable, start};
+use wh_poly_limits::tested;
 use wh_poly::{Atom, Atoms, Excess, Poly, Polys, one_factor, with_arguments};
 use wh_types::{Or, SimpleType};
 

@@ -19,7 +19,7 @@ use crate::renumbering::raise;
 use crate::replacing::apply_one;
 use crate::scope::{Scope, find};
 use std::alloc::Global;
-use wh_limits::{check_limits, variable};
+use wh_poly_limits::{check_limits, variable};
 use wh_poly::{Excess, Poly};
 use wh_types::{Or, SimpleType};
 

@@ -6,13 +6,13 @@ use Rattle.wh_cert.specs.Said.{said_node}
 use Rattle.wh_cert.specs.declared.certificate.Node.{Node}
 use Rattle.wh_sat.specs.declared.solving.Search.{Search}
 use Rattle.wh_sat.specs.declared.solving.Search.TheVariants as search
-use Rattle.wh_reduction.specs.TaskData.{TaskData}
+use Rattle.wh_reduction_pairs.specs.TaskData.{TaskData}
 use Rattle.wh_proof.specs.Looked.{poly_task}
-use Rattle.wh_guesses.specs.Conditions.{HasNoInterpretation}
-use Rattle.wh_guesses.specs.Found.{task_of, IsInterpretation}
+use Rattle.wh_poly_guesses.specs.Conditions.{HasNoInterpretation}
+use Rattle.wh_poly_guesses.specs.Found.{task_of, IsInterpretation}
 use Rattle.wh_usable_rules.specs.Least.{AreUsableRules}
-use Rattle.wh_blocking.specs.Answers.{IsAnswer}
-use Rattle.wh_flat.specs.Flat.{IsFlat}
+use Rattle.wh_poly_blocking.specs.Answers.{IsAnswer}
+use Rattle.wh_poly_flat.specs.Flat.{IsFlat}
 use Rattle.wh_find_flat.specs.Answers.{IsClosedList, IsFlatAnswer}
 use Rattle.wh_interpreting.specs.Interpreted.{IsFlatList, Interprets, IsInterpreted}
 

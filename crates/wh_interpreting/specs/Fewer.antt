@@ -1,7 +1,7 @@
 -- Lists of rules that are not all rules.
 use Rattle.std.specs.Prelude.{ℕ, ◌≢◌, List, length}
 use Rattle.wh_system.specs.Systems.{SystemData}
-use Rattle.wh_reduction.specs.TaskData.{numbers_from}
+use Rattle.wh_reduction_pairs.specs.TaskData.{numbers_from}
 
 -- the list has not all rules
 abbrev pub HasFewer : SystemData → List ℕ → Type 0

@@ -9,10 +9,10 @@ use Rattle.wh_sat.specs.declared.solving.Search.{Search}
 use Rattle.wh_sat.specs.declared.solving.Search.TheVariants as search
 use Rattle.wh_usable.specs.Closed.{IsUsable}
 use Rattle.wh_proof.specs.Looked.{poly_task}
-use Rattle.wh_guesses.specs.Conditions.{HasNoInterpretation}
-use Rattle.wh_guesses.specs.Found.{task_of, IsInterpretationOver}
-use Rattle.wh_blocking.specs.Answers.{IsSpent}
-use Rattle.wh_flat.specs.Flat.{IsFlat}
+use Rattle.wh_poly_guesses.specs.Conditions.{HasNoInterpretation}
+use Rattle.wh_poly_guesses.specs.Found.{task_of, IsInterpretationOver}
+use Rattle.wh_poly_blocking.specs.Answers.{IsSpent}
+use Rattle.wh_poly_flat.specs.Flat.{IsFlat}
 use Rattle.wh_interpreting.specs.Fewer.{HasFewer}
 
 -- the list, where there is one, is closed for the set and has not all rules (ours)

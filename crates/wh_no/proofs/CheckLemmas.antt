@@ -18,7 +18,7 @@ use Rattle.wh_step.specs.Replay.{Replays}
 use Rattle.wh_step.specs.Reduction.{Unbounded}
 use Rattle.wh_step.proofs.ReplayLemmas.{step_shut}
 use Rattle.wh_system.specs.Systems.{SystemData}
-use Rattle.wh_making.specs.Resolve.{Means}
+use Rattle.wh_system_making.specs.Resolve.{Means}
 use Rattle.wh_cert.specs.Written as written
 use Rattle.wh_cert.specs.Written.{Cert, no}
 use Rattle.wh_no.specs.declared.fault.NoFault.{NoFault}

@@ -4,9 +4,9 @@ use Rattle.std.proofs.lemmas.List.{take_all}
 use Rattle.std.proofs.lemmas.List.Elements.{All-nil}
 use Rattle.wh_types.specs.Ty.{Ty}
 use Rattle.wh_terms.specs.Tree.{Tm}
-use Rattle.wh_parts.specs.Naming.{type_meant}
+use Rattle.wh_system_parts.specs.Naming.{type_meant}
 use Rattle.wh_system.specs.Systems.{SystemData}
-use Rattle.wh_making.specs.Resolve.{Means}
+use Rattle.wh_system_making.specs.Resolve.{Means}
 use Rattle.wh_system.proofs.TypedDecided.{Decided, below_decided, decided_by, both_decided, sorts_decided}
 use Rattle.wh_pairs.proofs.ByPlace.{some_one}
 use Rattle.wh_cert.specs.Written as written

@@ -6,9 +6,9 @@ use Rattle.wh_terms.specs.Typing.{Symbols, Typed, WellTyped}
 use Rattle.wh_terms.specs.Measures.{height, size, SpinesWithin, AllSpinesWithin, Fits}
 use Rattle.wh_terms.proofs.TypingLaws.{typed_one}
 use Rattle.wh_text.specs.RawTree.{RTm}
-use Rattle.wh_parts.specs.Naming.{meant}
+use Rattle.wh_system_parts.specs.Naming.{meant}
 use Rattle.wh_system.specs.Systems.{SystemData}
-use Rattle.wh_making.specs.Resolve.{term_scope, Means}
+use Rattle.wh_system_making.specs.Resolve.{term_scope, Means}
 use Rattle.wh_system.proofs.TypedDecided.{Decided, HasType, decided_by, both_decided, same_type_decided, typed_decided}
 use Rattle.wh_pairs.proofs.ByPlace.{some_one}
 use Rattle.wh_no.specs.Faults.{IsTermFor}

@@ -4,7 +4,7 @@ use Rattle.wh_types.specs.Ty.{Ty}
 use Rattle.wh_terms.specs.Tree.{Tm, bound, free, fun, meta, app, lam, none as no_tms}
 use Rattle.wh_terms.proofs.TypingLaws.{some_one}
 use Rattle.wh_text.specs.RawTree.{Binder, named_binder, numbered_binder, RTm, named, numbered, free_variable, meta as raw_meta, lam as raw_lam, spine, RTms, none, more}
-use Rattle.wh_parts.specs.Naming.{Scope, number_of, binder_number, type_meant, or_else, both, meant, applied_meant}
+use Rattle.wh_system_parts.specs.Naming.{Scope, number_of, binder_number, type_meant, or_else, both, meant, applied_meant}
 use Rattle.wh_cert.specs.TermLimits.{TermFits, TermsFit}
 use Rattle.wh_no.specs.Unused.{first_unused}
 

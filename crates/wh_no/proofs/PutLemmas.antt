@@ -17,9 +17,9 @@ use Rattle.wh_terms.specs.Scope.{TellsType}
 use Rattle.wh_terms.specs.declared.rule.MetaDecl.{MetaDecl}
 use Rattle.wh_terms.proofs.TypingLaws.{some_one, typed_one}
 use Rattle.wh_text.specs.RawTree.{RTy, raw_type, RTys, no_types, more_types}
-use Rattle.wh_parts.specs.Naming.{number_of, type_meant, arrows_meant}
+use Rattle.wh_system_parts.specs.Naming.{number_of, type_meant, arrows_meant}
 use Rattle.wh_system.specs.Systems.{SystemData}
-use Rattle.wh_making.specs.Resolve.{Means}
+use Rattle.wh_system_making.specs.Resolve.{Means}
 use Rattle.wh_cert.specs.declared.certificate.Put as code
 use Rattle.wh_cert.specs.Written as written
 use Rattle.wh_cert.specs.Said.{said_put}

@@ -11,7 +11,7 @@ use Rattle.wh_terms.specs.Rules.{RewriteRule, IsWellMade, AreWellMade}
 use Rattle.wh_terms.specs.declared.path.Step as taken
 use Rattle.wh_terms.proofs.ValueForm.{value, value_agree}
 use Rattle.wh_terms.proofs.ValueLaws.{value_is, has_value}
-use Rattle.wh_laws.proofs.Reading.{candidate_for, candidate_is, typed-fits}
+use Rattle.wh_step_laws.proofs.Reading.{candidate_for, candidate_is, typed-fits}
 use Rattle.wh_step.specs.Replay.{StepAt, Replays}
 use Rattle.wh_step.specs.Reducts.{FailsAt, TooBigAt}
 use Rattle.wh_step.specs.Roots.{BetaStep, RuleStep, RootStep, put_at}
@@ -21,7 +21,7 @@ use Rattle.wh_step.proofs.ReplayLemmas.{step_shut, step_term}
 use Rattle.wh_system.proofs.TypedDecided.{Decided}
 use Rattle.wh_pairs.proofs.ByPlace.{some_one}
 use Rattle.wh_pairs.proofs.Searches.{SomeOrNone}
-use Rattle.wh_laws.proofs.SameTree.{same_tm, same_tm-equal, same_tm-self}
+use Rattle.wh_step_laws.proofs.SameTree.{same_tm, same_tm-equal, same_tm-self}
 use Rattle.wh_no.proofs.Meant.{fits_decided}
 
 pub tree_decided : (t u : Tm) → Decided (t ≡ u)

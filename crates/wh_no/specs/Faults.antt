@@ -8,7 +8,7 @@ use Rattle.wh_text.specs.RawTree.{RTm}
 use Rattle.wh_step.specs.Replay.{Replays}
 use Rattle.wh_step.specs.Reducts.{FailsAt, TooBigAt}
 use Rattle.wh_system.specs.Systems.{SystemData}
-use Rattle.wh_making.specs.Resolve.{Means}
+use Rattle.wh_system_making.specs.Resolve.{Means}
 use Rattle.wh_cert.specs.Written as written
 use Rattle.wh_cert.specs.Written.{Cert, yes, no}
 use Rattle.wh_no.specs.declared.fault.NoFault.{NoFault}

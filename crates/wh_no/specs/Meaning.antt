@@ -2,9 +2,9 @@
 use Rattle.std.specs.Prelude.{ℕ, ◌≡◌, List, [], ◌∷◌, Some}
 use Rattle.wh_terms.specs.declared.path.Step as taken
 use Rattle.wh_text.specs.RawTree.{RTm}
-use Rattle.wh_parts.specs.Naming.{type_meant}
+use Rattle.wh_system_parts.specs.Naming.{type_meant}
 use Rattle.wh_system.specs.Systems.{SystemData}
-use Rattle.wh_making.specs.Resolve.{Means}
+use Rattle.wh_system_making.specs.Resolve.{Means}
 use Rattle.wh_cert.specs.Written as written
 use Rattle.wh_cert.specs.Written.{Cert, yes, no}
 use Rattle.wh_no.specs.Claim.{Put, Claim}

@@ -9,14 +9,14 @@ ghost use Rattle.wh_terms.specs.declared.subst.SubstEntry as entry;
 ghost use Rattle.wh_cert.specs.Said.{said_put};
 ghost use Rattle.wh_cert.specs.Written as written;
 ghost use Rattle.wh_system.specs.SystemView.{system_data};
-ghost use Rattle.wh_making.specs.TablesOf.{AreTablesOf};
+ghost use Rattle.wh_system_making.specs.TablesOf.{AreTablesOf};
 ghost use Rattle.wh_no.specs.Entry.{entry_puts, SaysTyped};
 ghost use Rattle.wh_no.specs.Faults.{AreRight, AreRightTo, IsPutFault};
 
 use crate::fault::NoFault;
 use std::alloc::{AllocError, Global};
 use wh_cert::Put;
-use wh_making::NameTables;
+use wh_system_making::NameTables;
 use wh_system::System;
 use wh_terms::{Metas, SubstEntry, Term, type_of};
 use wh_types::{Or, SimpleType, same_type};

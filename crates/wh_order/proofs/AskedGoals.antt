@@ -5,18 +5,18 @@ use Rattle.wh_types.specs.Erase.{ty}
 use Rattle.wh_types.specs.declared.simple_type.SimpleType.{SimpleType}
 use Rattle.wh_terms.specs.Tree.{Tm, free, lam}
 use Rattle.wh_terms.specs.Substitution.{opened}
-use Rattle.wh_inference.specs.Inferences.{Letter, same_trees, bodies, arguments, Inferences}
-use Rattle.wh_inference.specs.Said.{letter}
-use Rattle.wh_inference.specs.declared.inference.Letter as c
-use Rattle.wh_inference.specs.declared.inference.Letter.TheVariants.{Same, Lam, Mono, Sub, Prec, Lex, App, Bind, Var, Meta}
-use Rattle.wh_extended.specs.Kinds.{kind}
-use Rattle.wh_path_order.specs.Verdict as v
-use Rattle.wh_path_order.specs.Verdict.{greater, Task, pairwise, some_strict, one_kind, above_tasks, greater_tasks, typed_tasks, at_least_tasks, tasks}
-use Rattle.wh_trees.specs.declared.tree.Tree.{Tree}
-use Rattle.wh_trees.specs.Trees.{tree, trees}
-use Rattle.wh_trees.specs.TreeParts.{World, Over, AllOver, IsBody, IsApplied, IsApplication}
-use Rattle.wh_trees.proofs.TreeLemmas.{trees-length}
-use Rattle.wh_trees.proofs.SameLemmas.{Decided}
+use Rattle.wh_order_inference.specs.Inferences.{Letter, same_trees, bodies, arguments, Inferences}
+use Rattle.wh_order_inference.specs.Said.{letter}
+use Rattle.wh_order_inference.specs.declared.inference.Letter as c
+use Rattle.wh_order_inference.specs.declared.inference.Letter.TheVariants.{Same, Lam, Mono, Sub, Prec, Lex, App, Bind, Var, Meta}
+use Rattle.wh_order_extended.specs.Kinds.{kind}
+use Rattle.wh_order_path.specs.Verdict as v
+use Rattle.wh_order_path.specs.Verdict.{greater, Task, pairwise, some_strict, one_kind, above_tasks, greater_tasks, typed_tasks, at_least_tasks, tasks}
+use Rattle.wh_order_trees.specs.declared.tree.Tree.{Tree}
+use Rattle.wh_order_trees.specs.Trees.{tree, trees}
+use Rattle.wh_order_trees.specs.TreeParts.{World, Over, AllOver, IsBody, IsApplied, IsApplication}
+use Rattle.wh_order_trees.proofs.TreeLemmas.{trees-length}
+use Rattle.wh_order_trees.proofs.SameLemmas.{Decided}
 use Rattle.wh_order.specs.declared.goals.Claim.{Claim}
 use Rattle.wh_order.specs.declared.goals.Claim.TheVariants.{AtLeast, Greater, Above}
 use Rattle.wh_order.specs.declared.goals.Goal.{Goal}

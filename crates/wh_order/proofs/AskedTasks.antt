@@ -7,13 +7,13 @@ use Rattle.wh_terms.specs.Tree.{Tm, bound, free, fun, meta, lam, app, head}
 use Rattle.wh_terms.specs.Substitution.{opened}
 use Rattle.wh_terms.specs.Typing.{Symbols, Declared}
 use Rattle.wh_terms.proofs.TypeTests.{same_ty-self, same_ty-equal}
-use Rattle.wh_inference.specs.Inferences.{Letter, same_trees, bodies, arguments, part, lower, first_less, spine_parts, body, variable, meta_part, Inferences}
-use Rattle.wh_extended.specs.Kinds.{kind}
-use Rattle.wh_path_order.specs.Heads.{arguments_of}
-use Rattle.wh_path_order.specs.SameTrees.{same}
-use Rattle.wh_path_order.specs.Verdict.{greater, Task, pairwise, when, is_other_head, some_strict, above_tasks, greater_tasks, typed_tasks, at_least_tasks}
-use Rattle.wh_path_order.proofs.SameTreeLaws.{tree_equal}
-use Rattle.wh_trees.specs.TreeParts.{body_in, IsOtherSpine}
+use Rattle.wh_order_inference.specs.Inferences.{Letter, same_trees, bodies, arguments, part, lower, first_less, spine_parts, body, variable, meta_part, Inferences}
+use Rattle.wh_order_extended.specs.Kinds.{kind}
+use Rattle.wh_order_path.specs.Heads.{arguments_of}
+use Rattle.wh_order_path.specs.SameTrees.{same}
+use Rattle.wh_order_path.specs.Verdict.{greater, Task, pairwise, when, is_other_head, some_strict, above_tasks, greater_tasks, typed_tasks, at_least_tasks}
+use Rattle.wh_order_path.proofs.SameTreeLaws.{tree_equal}
+use Rattle.wh_order_trees.specs.TreeParts.{body_in, IsOtherSpine}
 use Rattle.wh_order.proofs.LetterTasks.{no_above}
 use Rattle.wh_order.proofs.SymbolGoals.{same-self}
 

@@ -4,14 +4,14 @@ use Rattle.std.specs.Prelude.{◌==◌}
 use Rattle.std.proofs.lemmas.Bool.{eq-eqb, ne_eqb}
 use Rattle.wh_types.specs.declared.simple_type.SimpleType.{SimpleType}
 use Rattle.wh_terms.specs.Tree.{Tm, bound, free, fun, meta, lam, app, Tms, none, more, tms_of, spine}
-use Rattle.wh_path_order.specs.Heads.{nearest}
-use Rattle.wh_path_order.specs.SameTrees.{same, all_same}
-use Rattle.wh_path_order.specs.Verdict.{is_abstracted}
-use Rattle.wh_trees.specs.declared.tree.Tree.{Tree, Meta, Lam}
-use Rattle.wh_trees.specs.declared.tree.Tree.TheVariants.{Bound, Free, Meta', Sym', Mark', Lam', Apply'}
-use Rattle.wh_trees.specs.Trees.{tree, row, trees}
-use Rattle.wh_trees.specs.TreeParts.{World, Over, AllOver}
-use Rattle.wh_trees.proofs.TreeLemmas.{tree_of_meta, over_of_meta}
+use Rattle.wh_order_path.specs.Heads.{nearest}
+use Rattle.wh_order_path.specs.SameTrees.{same, all_same}
+use Rattle.wh_order_path.specs.Verdict.{is_abstracted}
+use Rattle.wh_order_trees.specs.declared.tree.Tree.{Tree, Meta, Lam}
+use Rattle.wh_order_trees.specs.declared.tree.Tree.TheVariants.{Bound, Free, Meta', Sym', Mark', Lam', Apply'}
+use Rattle.wh_order_trees.specs.Trees.{tree, row, trees}
+use Rattle.wh_order_trees.specs.TreeParts.{World, Over, AllOver}
+use Rattle.wh_order_trees.proofs.TreeLemmas.{tree_of_meta, over_of_meta}
 
 same-spine : (k : ℕ) (h : Tm) (ts : List Tm) → same h (bound k) ≡ false → same (spine h ts) (bound k) ≡ false
 same-spine k h [] e = e

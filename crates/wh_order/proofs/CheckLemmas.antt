@@ -5,12 +5,12 @@ use Rattle.std.proofs.lemmas.Bool.{eq-eqb, ne_eqb}
 use Rattle.wh_types.specs.declared.want.Or.{Or}
 use Rattle.wh_types.specs.declared.want.Or.TheVariants.{NoMemory, Because}
 use Rattle.wh_terms.specs.Typing.{Symbols, Declared}
-use Rattle.wh_inference.specs.Inferences as m
-use Rattle.wh_inference.specs.Inferences.{infer, no_parts, more_parts, entries, all_entries, count_parts}
-use Rattle.wh_inference.specs.Said.{letter, inference, inferences, parts_row}
-use Rattle.wh_inference.specs.declared.inference.Inference.{Inference, Inference', out-Inference, outs-Inference', Row_of-Inference, end_of-Inference, more_of-Inference, items-the_row-Inference, items_shown-the_row-Inference-0}
-use Rattle.wh_path_order.specs.Verdict.{Task, tasks, or_later, verdict, verdicts}
-use Rattle.wh_trees.specs.TreeParts.{World}
+use Rattle.wh_order_inference.specs.Inferences as m
+use Rattle.wh_order_inference.specs.Inferences.{infer, no_parts, more_parts, entries, all_entries, count_parts}
+use Rattle.wh_order_inference.specs.Said.{letter, inference, inferences, parts_row}
+use Rattle.wh_order_inference.specs.declared.inference.Inference.{Inference, Inference', out-Inference, outs-Inference', Row_of-Inference, end_of-Inference, more_of-Inference, items-the_row-Inference, items_shown-the_row-Inference-0}
+use Rattle.wh_order_path.specs.Verdict.{Task, tasks, or_later, verdict, verdicts}
+use Rattle.wh_order_trees.specs.TreeParts.{World}
 use Rattle.wh_order.specs.declared.goals.Goal.{Goal}
 use Rattle.wh_order.specs.Claims.{task, IsGoalOver, AreGoalsOver, moved, Judged}
 

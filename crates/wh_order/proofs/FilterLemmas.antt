@@ -9,18 +9,18 @@ use Rattle.wh_types.specs.Ty.{Ty, sort, arguments}
 use Rattle.wh_terms.specs.Typing.{Symbols}
 use Rattle.wh_terms.specs.Rules.{RewriteRule}
 use Rattle.wh_system.specs.Needs.{need_of}
-use Rattle.wh_reduction.specs.TaskData.{numbers_from}
-use Rattle.wh_reduction.proofs.Numbers.{numbers_at, numbers_length}
+use Rattle.wh_reduction_pairs.specs.TaskData.{numbers_from}
+use Rattle.wh_reduction_pairs.proofs.Numbers.{numbers_at, numbers_length}
 use Rattle.wh_hopoly.specs.Evaluation as e
 use Rattle.wh_polycheck.specs.Marks.{marked_types}
 use Rattle.wh_polycheck.proofs.MoreInterpretations.{slice_get_front, slice_get_behind}
-use Rattle.wh_inference.specs.Filters.{Filter, keep, pick}
-use Rattle.wh_inference.specs.FilterText.{WrittenFilter, picks, filter_of}
-use Rattle.wh_extended.specs.Kinds.{type_at}
-use Rattle.wh_extended.specs.Filtered.{IsProper, kept_type, kept_types}
-use Rattle.wh_extended.proofs.LongLaws.{at_is}
-use Rattle.wh_extended.proofs.FilteredSymbols.{filtered_kept}
-use Rattle.wh_ordering.specs.Filterings.{FilteringData, MarkFilter, IsProperAsWritten, argument_types, filter_among, filters_of, filtered_signature, mark_among}
+use Rattle.wh_order_inference.specs.Filters.{Filter, keep, pick}
+use Rattle.wh_order_inference.specs.FilterText.{WrittenFilter, picks, filter_of}
+use Rattle.wh_order_extended.specs.Kinds.{type_at}
+use Rattle.wh_order_extended.specs.Filtered.{IsProper, kept_type, kept_types}
+use Rattle.wh_order_extended.proofs.LongLaws.{at_is}
+use Rattle.wh_order_extended.proofs.FilteredSymbols.{filtered_kept}
+use Rattle.wh_order_node.specs.Filterings.{FilteringData, MarkFilter, IsProperAsWritten, argument_types, filter_among, filters_of, filtered_signature, mark_among}
 use Rattle.wh_order.specs.Kept.{HasProperMark}
 use Rattle.wh_order.specs.TreeSides.{AreFilters}
 

@@ -11,15 +11,15 @@ use Rattle.wh_terms.specs.declared.term.Term.{Term}
 use Rattle.wh_system.specs.CanonicalView.{side_of}
 use Rattle.wh_pairs.specs.PairData.{PairData}
 use Rattle.wh_polycheck.specs.Marks.{marked_types, head_of_side}
-use Rattle.wh_extended.specs.Long.{long}
-use Rattle.wh_extended.specs.ExtendedSides.{extended_side}
-use Rattle.wh_extended.specs.Filtered.{sift}
-use Rattle.wh_ordering.specs.Filterings.{FilteringData, filters_of, mark_among}
-use Rattle.wh_ordering.specs.Ordering.{IsNarrow}
-use Rattle.wh_sides.specs.declared.sides.WideSide.{WideSide}
-use Rattle.wh_sides.specs.RuleSides.{IsWideSide}
-use Rattle.wh_sides.specs.PairSides.{AreWholeArguments, list_of_side}
-use Rattle.wh_trees.specs.declared.tree.Tree.{Tree}
+use Rattle.wh_order_extended.specs.Long.{long}
+use Rattle.wh_order_extended.specs.ExtendedSides.{extended_side}
+use Rattle.wh_order_extended.specs.Filtered.{sift}
+use Rattle.wh_order_node.specs.Filterings.{FilteringData, filters_of, mark_among}
+use Rattle.wh_order_node.specs.Ordering.{IsNarrow}
+use Rattle.wh_order_sides.specs.declared.sides.WideSide.{WideSide}
+use Rattle.wh_order_sides.specs.RuleSides.{IsWideSide}
+use Rattle.wh_order_sides.specs.PairSides.{AreWholeArguments, list_of_side}
+use Rattle.wh_order_trees.specs.declared.tree.Tree.{Tree}
 use Rattle.wh_order.specs.TreeSides.{AreFilters, HasTypedCalls, IsTreeOf, IsTreeOfSide, IsTreeOfCall, extended_pair_side}
 use Rattle.wh_order.specs.Kept.{HasProperMark, IsFiltered}
 use Rattle.wh_order.specs.Sifted.{IsWhole, AreWhole, AreTreesOf, IsSifted, AreSifted}

@@ -2,13 +2,13 @@
 use Rattle.std.proofs.Common.{◌≡◌, ℕ, zero, suc, ◌+◌, ◌<◌, ◌≤◌, List, [], ◌∷◌, ◌++◌, length, map, take, get_or, refl, ap, ap₂, subst, sym, ◌∙◌, append-nil, append_assoc, arith}
 use Rattle.std.proofs.lemmas.List.{map-append}
 use Rattle.wh_terms.specs.Tree.{Tm}
-use Rattle.wh_path_order.specs.Verdict as v
-use Rattle.wh_path_order.specs.Verdict.{Task, each, pairwise}
-use Rattle.wh_trees.specs.declared.tree.Tree.{Tree}
-use Rattle.wh_trees.specs.Trees.{tree, trees}
-use Rattle.wh_trees.specs.TreeParts.{World, Over, AllOver}
-use Rattle.wh_trees.proofs.TreeLemmas.{all_get}
-use Rattle.wh_trees.proofs.SameLemmas.{trees_take_next, take_past}
+use Rattle.wh_order_path.specs.Verdict as v
+use Rattle.wh_order_path.specs.Verdict.{Task, each, pairwise}
+use Rattle.wh_order_trees.specs.declared.tree.Tree.{Tree}
+use Rattle.wh_order_trees.specs.Trees.{tree, trees}
+use Rattle.wh_order_trees.specs.TreeParts.{World, Over, AllOver}
+use Rattle.wh_order_trees.proofs.TreeLemmas.{all_get}
+use Rattle.wh_order_trees.proofs.SameLemmas.{trees_take_next, take_past}
 use Rattle.wh_order.specs.declared.goals.Goal.{Goal}
 use Rattle.wh_order.specs.Claims.{task, IsGoalOver, AreGoalsOver, StandFor}
 

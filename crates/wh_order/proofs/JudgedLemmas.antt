@@ -3,16 +3,16 @@ use Rattle.std.proofs.Common.{◌≡◌, ℕ, zero, suc, ◌+◌, ◌*◌, ◌<�
 use Rattle.std.specs.Global.{Vec}
 use Rattle.wh_types.specs.declared.want.Or.{Or}
 use Rattle.wh_types.specs.declared.want.Or.TheVariants.{Because}
-use Rattle.wh_inference.specs.Inferences as m
-use Rattle.wh_inference.specs.Inferences.{infer, entries, all_entries, count_parts}
-use Rattle.wh_inference.specs.Said.{letter, inference, inferences}
-use Rattle.wh_inference.specs.declared.inference.Inference.{Inference, out-Inference}
-use Rattle.wh_path_order.specs.Verdict.{Task, tasks, verdict, verdicts}
-use Rattle.wh_trees.specs.TreeParts.{World}
+use Rattle.wh_order_inference.specs.Inferences as m
+use Rattle.wh_order_inference.specs.Inferences.{infer, entries, all_entries, count_parts}
+use Rattle.wh_order_inference.specs.Said.{letter, inference, inferences}
+use Rattle.wh_order_inference.specs.declared.inference.Inference.{Inference, out-Inference}
+use Rattle.wh_order_path.specs.Verdict.{Task, tasks, verdict, verdicts}
+use Rattle.wh_order_trees.specs.TreeParts.{World}
 use Rattle.wh_order.specs.declared.goals.Goal.{Goal}
 use Rattle.wh_order.specs.Claims.{task, IsGoalOver, AreGoalsOver, StandFor, MayStandFor, AreGoals, moved, Judged}
 use Rattle.wh_order.proofs.CheckLemmas.{inference_is, count_is, bad_alone, bad_count, by_parts, judged_whole, judged_bad}
-use Rattle.wh_path_order.proofs.SameTreeLaws.{some_none}
+use Rattle.wh_order_path.proofs.SameTreeLaws.{some_none}
 
 pub nothing_asked : (n : ℕ) (w : World) (o : Option (List Task)) → MayStandFor n w None o → o ≡ None
 nothing_asked n w None h = refl

@@ -8,20 +8,20 @@ use Rattle.std.proofs.lemmas.List.Elements.{All-head, All-tail}
 use Rattle.std.proofs.lemmas.Option.{none-some, same_Some, get_or_from_slice_get, slice_get_within, slice_get-get_or}
 use Rattle.wh_types.specs.Ty.{Ty, sort}
 use Rattle.wh_terms.specs.Tree.{fun, spine}
-use Rattle.wh_inference.specs.FilterText.{WrittenFilter, keeps, picks, filter_of}
-use Rattle.wh_inference.specs.Said.{written_filter}
-use Rattle.wh_inference.specs.declared.filter.Filter as code
-use Rattle.wh_inference.specs.declared.filter.Filter.TheVariants.{Keep, Pick}
+use Rattle.wh_order_inference.specs.FilterText.{WrittenFilter, keeps, picks, filter_of}
+use Rattle.wh_order_inference.specs.Said.{written_filter}
+use Rattle.wh_order_inference.specs.declared.filter.Filter as code
+use Rattle.wh_order_inference.specs.declared.filter.Filter.TheVariants.{Keep, Pick}
 use Rattle.wh_pairs.proofs.ByPlace.{read_map, some_one}
-use Rattle.wh_extended.specs.Kinds.{type_at, arrows}
-use Rattle.wh_extended.specs.Filtered.{collapse, chosen, IncreasingFrom}
-use Rattle.wh_ordering.specs.declared.filters.MarkFilter.{MarkFilter}
-use Rattle.wh_ordering.specs.FilteringView.{mark_filter}
-use Rattle.wh_ordering.specs.Filterings.{IsProperAsWritten, mark_among, unfiltered}
-use Rattle.wh_trees.specs.declared.tree.Tree.{Tree, Sym, Mark, Apply}
-use Rattle.wh_trees.specs.Trees.{tree, trees, spine_type, IsHeadTree}
-use Rattle.wh_trees.specs.TreeParts.{World, Over, AllOver}
-use Rattle.wh_trees.proofs.TreeLemmas.{tree_of_sym, tree_of_mark, tree_of_apply, sym_over, mark_over, apply_over}
+use Rattle.wh_order_extended.specs.Kinds.{type_at, arrows}
+use Rattle.wh_order_extended.specs.Filtered.{collapse, chosen, IncreasingFrom}
+use Rattle.wh_order_node.specs.declared.filters.MarkFilter.{MarkFilter}
+use Rattle.wh_order_node.specs.FilteringView.{mark_filter}
+use Rattle.wh_order_node.specs.Filterings.{IsProperAsWritten, mark_among, unfiltered}
+use Rattle.wh_order_trees.specs.declared.tree.Tree.{Tree, Sym, Mark, Apply}
+use Rattle.wh_order_trees.specs.Trees.{tree, trees, spine_type, IsHeadTree}
+use Rattle.wh_order_trees.specs.TreeParts.{World, Over, AllOver}
+use Rattle.wh_order_trees.proofs.TreeLemmas.{tree_of_sym, tree_of_mark, tree_of_apply, sym_over, mark_over, apply_over}
 use Rattle.wh_order.specs.declared.kept.Kept.{Kept}
 use Rattle.wh_order.specs.declared.kept.Kept.TheVariants.{Arguments, Instead}
 use Rattle.wh_order.specs.Kept.{AreAt, HasProperMark, IsLeft, IsFiltered, IsSpineOf}

@@ -2,12 +2,12 @@
 use Rattle.std.proofs.Common.{◌≡◌, ℕ, List, [], ◌∷◌, true, Option, Some, None, refl, ap, subst, sym}
 use Rattle.std.specs.Global.{Vec}
 use Rattle.wh_terms.specs.Tree.{Tm, bound, free, fun, meta, lam, app, tms_of, head}
-use Rattle.wh_inference.specs.Inferences.{Letter}
-use Rattle.wh_path_order.specs.Heads.{list_of}
-use Rattle.wh_path_order.specs.Verdict.{Task, is_other_head, symbol_tasks}
-use Rattle.wh_trees.specs.declared.tree.Tree.{Tree}
-use Rattle.wh_trees.specs.Trees.{tree}
-use Rattle.wh_trees.specs.TreeParts.{World, Over}
+use Rattle.wh_order_inference.specs.Inferences.{Letter}
+use Rattle.wh_order_path.specs.Heads.{list_of}
+use Rattle.wh_order_path.specs.Verdict.{Task, is_other_head, symbol_tasks}
+use Rattle.wh_order_trees.specs.declared.tree.Tree.{Tree}
+use Rattle.wh_order_trees.specs.Trees.{tree}
+use Rattle.wh_order_trees.specs.TreeParts.{World, Over}
 use Rattle.wh_order.specs.declared.goals.Goal.{Goal}
 use Rattle.wh_order.specs.Claims.{HoldsGoals, MayStandFor, AreSymbolGoals}
 

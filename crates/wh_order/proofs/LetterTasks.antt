@@ -6,11 +6,11 @@ use Rattle.wh_types.specs.Ty.{Ty}
 use Rattle.wh_terms.specs.Tree.{Tm, bound, free, fun, meta, lam, app, Tms, head}
 use Rattle.wh_terms.specs.Substitution.{opened}
 use Rattle.wh_terms.specs.Typing.{Symbols, Declared}
-use Rattle.wh_inference.specs.Inferences.{Letter, same_trees, bodies, arguments, part, lower, first_less, spine_parts, body, variable, meta_part}
-use Rattle.wh_path_order.specs.Heads.{arguments_of, list_of}
-use Rattle.wh_path_order.specs.SameTrees.{same_list}
-use Rattle.wh_path_order.specs.Verdict.{at_least, greater, above, Task, each, when, is_other_head, is_abstracted, symbol_tasks, above_tasks}
-use Rattle.wh_trees.specs.TreeParts.{item_at, body_in, number_in, IsMeta, IsOtherSpine}
+use Rattle.wh_order_inference.specs.Inferences.{Letter, same_trees, bodies, arguments, part, lower, first_less, spine_parts, body, variable, meta_part}
+use Rattle.wh_order_path.specs.Heads.{arguments_of, list_of}
+use Rattle.wh_order_path.specs.SameTrees.{same_list}
+use Rattle.wh_order_path.specs.Verdict.{at_least, greater, above, Task, each, when, is_other_head, is_abstracted, symbol_tasks, above_tasks}
+use Rattle.wh_order_trees.specs.TreeParts.{item_at, body_in, number_in, IsMeta, IsOtherSpine}
 
 module _ (F : Symbols) (prec : ℕ → ℕ) (M : List Declared) where
   -- s

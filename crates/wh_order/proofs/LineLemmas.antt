@@ -5,14 +5,14 @@ use Rattle.wh_types.specs.declared.want.Or.TheVariants.{NoMemory, Because}
 use Rattle.wh_types.specs.Outcome.{MatchOr}
 use Rattle.wh_terms.specs.Typing.{Symbols, Declared}
 use Rattle.wh_terms.specs.Rules.{RewriteRule}
-use Rattle.wh_inference.specs.declared.inference.Inference.{Inference}
-use Rattle.wh_inference.specs.Said.{inference}
-use Rattle.wh_extended.specs.Filtered.{precedences}
-use Rattle.wh_path_order.specs.Verdict.{at_least, verdict, line_verdict}
-use Rattle.wh_ordering.specs.Filterings.{FilteringData, filter_among, mark_among, filtered_signature}
-use Rattle.wh_trees.specs.declared.tree.Tree.{Tree}
-use Rattle.wh_trees.specs.Trees.{tree}
-use Rattle.wh_trees.specs.TreeParts.{World, Over}
+use Rattle.wh_order_inference.specs.declared.inference.Inference.{Inference}
+use Rattle.wh_order_inference.specs.Said.{inference}
+use Rattle.wh_order_extended.specs.Filtered.{precedences}
+use Rattle.wh_order_path.specs.Verdict.{at_least, verdict, line_verdict}
+use Rattle.wh_order_node.specs.Filterings.{FilteringData, filter_among, mark_among, filtered_signature}
+use Rattle.wh_order_trees.specs.declared.tree.Tree.{Tree}
+use Rattle.wh_order_trees.specs.Trees.{tree}
+use Rattle.wh_order_trees.specs.TreeParts.{World, Over}
 use Rattle.wh_order.specs.declared.check.BadInference.{BadInference}
 use Rattle.wh_order.specs.BadNumber.{number_of_bad}
 use Rattle.wh_order.specs.Precedences.{order_of}

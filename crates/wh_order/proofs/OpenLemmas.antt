@@ -9,11 +9,11 @@ use Rattle.wh_terms.specs.Substitution.{act, acts, cons, opened}
 use Rattle.wh_terms.specs.Under.{ups, ups_free}
 use Rattle.wh_terms.proofs.UnderLemmas.{ups_low, opened_here, opened_beyond, raised_free, ups_free_stays}
 use Rattle.wh_terms.proofs.WalkLemmas.{act_at_lam}
-use Rattle.wh_trees.specs.declared.tree.Tree.{Tree, Meta, Sym, Mark, Lam, Apply}
-use Rattle.wh_trees.specs.Trees.{tree, trees, IsHeadTree, spine_type}
-use Rattle.wh_trees.specs.TreeParts.{World, Over, AllOver}
-use Rattle.wh_trees.proofs.TreeLemmas.{trees-length, tree_of_meta, tree_of_sym, tree_of_mark, tree_of_apply, over_of_meta, over_of_sym, over_of_mark, over_of_apply, meta_over, sym_over, mark_over, apply_over, all_get}
-use Rattle.wh_trees.proofs.SameLemmas.{trees_take_next, take_past}
+use Rattle.wh_order_trees.specs.declared.tree.Tree.{Tree, Meta, Sym, Mark, Lam, Apply}
+use Rattle.wh_order_trees.specs.Trees.{tree, trees, IsHeadTree, spine_type}
+use Rattle.wh_order_trees.specs.TreeParts.{World, Over, AllOver}
+use Rattle.wh_order_trees.proofs.TreeLemmas.{trees-length, tree_of_meta, tree_of_sym, tree_of_mark, tree_of_apply, over_of_meta, over_of_sym, over_of_mark, over_of_apply, meta_over, sym_over, mark_over, apply_over, all_get}
+use Rattle.wh_order_trees.proofs.SameLemmas.{trees_take_next, take_past}
 
 act-spine : (σ : ℕ → Tm) (φ : ℕ → Ty → Tm) (h : Tm) (ts : List Tm) → act σ φ (spine h ts) ≡ spine (act σ φ h) (map (act σ φ) ts)
 unfolding act

@@ -2,19 +2,19 @@
 use Rattle.std.proofs.Common.{◌≡◌, ℕ, zero, suc, ◌+◌, ◌-◌, ◌<◌, ◌≤◌, List, [], ◌∷◌, length, map, drop, get_or, Some, None, cond, refl, ap, sym, ◌∙◌, arith}
 use Rattle.std.proofs.lemmas.Bool.{lt-ltb, le-ltb, eq-eqb, ne_eqb}
 use Rattle.wh_terms.specs.Tree.{fun, head}
-use Rattle.wh_laws.proofs.Candidates.{head-spine}
-use Rattle.wh_inference.specs.declared.filter.Filter.{Filter}
-use Rattle.wh_inference.specs.FilterText.{filter_of}
-use Rattle.wh_inference.specs.Said.{written_filter}
-use Rattle.wh_extended.specs.Filtered.{precedence}
-use Rattle.wh_ordering.specs.declared.filters.MarkFilter.{MarkFilter}
-use Rattle.wh_ordering.specs.FilteringView.{mark_filter}
-use Rattle.wh_ordering.specs.Filterings.{FilteringData, filter_among, mark_among, unfiltered}
-use Rattle.wh_trees.specs.declared.tree.Tree.{Tree, Sym, Mark}
-use Rattle.wh_trees.specs.Trees.{tree, trees}
-use Rattle.wh_trees.specs.TreeParts.{World, Over}
-use Rattle.wh_trees.proofs.TreeLemmas.{tree_of_sym, tree_of_mark, over_of_sym}
-use Rattle.wh_trees.proofs.PartLemmas.{IsOtherTree, no_symbol}
+use Rattle.wh_step_laws.proofs.Candidates.{head-spine}
+use Rattle.wh_order_inference.specs.declared.filter.Filter.{Filter}
+use Rattle.wh_order_inference.specs.FilterText.{filter_of}
+use Rattle.wh_order_inference.specs.Said.{written_filter}
+use Rattle.wh_order_extended.specs.Filtered.{precedence}
+use Rattle.wh_order_node.specs.declared.filters.MarkFilter.{MarkFilter}
+use Rattle.wh_order_node.specs.FilteringView.{mark_filter}
+use Rattle.wh_order_node.specs.Filterings.{FilteringData, filter_among, mark_among, unfiltered}
+use Rattle.wh_order_trees.specs.declared.tree.Tree.{Tree, Sym, Mark}
+use Rattle.wh_order_trees.specs.Trees.{tree, trees}
+use Rattle.wh_order_trees.specs.TreeParts.{World, Over}
+use Rattle.wh_order_trees.proofs.TreeLemmas.{tree_of_sym, tree_of_mark, over_of_sym}
+use Rattle.wh_order_trees.proofs.PartLemmas.{IsOtherTree, no_symbol}
 use Rattle.wh_order.specs.Precedences.{HeadOrder}
 
 pub symbol_order : (D : FilteringData) (t : Tree) (f : ℕ) (ts : List Tree) (p : ℕ) → t ≡ Sym f ts → p ≡ precedence (filter_among D.symbols f)

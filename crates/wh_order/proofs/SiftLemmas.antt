@@ -13,19 +13,19 @@ use Rattle.wh_terms.specs.declared.term.Term.{Term}
 use Rattle.wh_terms.specs.declared.rule.MetaDecl.{MetaDecl}
 use Rattle.wh_pairs.proofs.AlikeLemmas.{tms_of_map}
 use Rattle.wh_polycheck.specs.Marks.{marked_types}
-use Rattle.wh_inference.specs.Filters.{Filter}
-use Rattle.wh_inference.specs.FilterText.{WrittenFilter, filter_of}
-use Rattle.wh_extended.specs.Kinds.{type_at, out_at}
-use Rattle.wh_extended.specs.Long.{long}
-use Rattle.wh_extended.specs.Filtered.{collapse, collapsed, filtered, sift, sifts}
-use Rattle.wh_extended.proofs.CallSides.{filtered_arguments, call_is}
-use Rattle.wh_extended.proofs.TypeLists.{typed_length}
-use Rattle.wh_path_order.specs.Lines.{filtered_call}
-use Rattle.wh_ordering.specs.Filterings.{FilteringData, IsProperAsWritten, filters_of, filtered_signature, mark_among}
-use Rattle.wh_trees.specs.declared.tree.Tree.{Tree, Meta}
-use Rattle.wh_trees.specs.Trees.{tree, trees, IsHeadTree}
-use Rattle.wh_trees.specs.TreeParts.{World, Over, AllOver}
-use Rattle.wh_trees.proofs.TreeLemmas.{trees-length, tree_of_meta, meta_over}
+use Rattle.wh_order_inference.specs.Filters.{Filter}
+use Rattle.wh_order_inference.specs.FilterText.{WrittenFilter, filter_of}
+use Rattle.wh_order_extended.specs.Kinds.{type_at, out_at}
+use Rattle.wh_order_extended.specs.Long.{long}
+use Rattle.wh_order_extended.specs.Filtered.{collapse, collapsed, filtered, sift, sifts}
+use Rattle.wh_order_extended.proofs.CallSides.{filtered_arguments, call_is}
+use Rattle.wh_order_extended.proofs.TypeLists.{typed_length}
+use Rattle.wh_order_path.specs.Lines.{filtered_call}
+use Rattle.wh_order_node.specs.Filterings.{FilteringData, IsProperAsWritten, filters_of, filtered_signature, mark_among}
+use Rattle.wh_order_trees.specs.declared.tree.Tree.{Tree, Meta}
+use Rattle.wh_order_trees.specs.Trees.{tree, trees, IsHeadTree}
+use Rattle.wh_order_trees.specs.TreeParts.{World, Over, AllOver}
+use Rattle.wh_order_trees.proofs.TreeLemmas.{trees-length, tree_of_meta, meta_over}
 use Rattle.wh_order.specs.TreeSides.{AreFilters, IsTreeOf}
 use Rattle.wh_order.specs.Kept.{HasProperMark, IsFiltered, IsSpineOf}
 use Rattle.wh_order.specs.Sifted.{IsWhole, AreWhole, AreOverFiltered, AreTreesOf, IsSifted, AreSifted}

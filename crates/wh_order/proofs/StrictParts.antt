@@ -1,10 +1,10 @@
 -- Whether some part of an inference is not that of the same trees.
 use Rattle.std.proofs.Common.{◌≡◌, ℕ, ◌+◌, ◌<◌, ◌≤◌, List, length, drop, get_or, Bool, true, false, IsTrue, ◌↔◌, refl, ap, sym, ◌∙◌}
-use Rattle.wh_inference.specs.Inferences as m
-use Rattle.wh_inference.specs.Inferences.{same_trees, bodies, arguments, part, lower, first_less, spine_parts, body, variable, meta_part, more_parts, letter_of}
-use Rattle.wh_inference.specs.Said.{letter, inference, inferences}
-use Rattle.wh_inference.specs.declared.inference.Inference.{Inference, out-Inference}
-use Rattle.wh_path_order.specs.Verdict.{some_strict}
+use Rattle.wh_order_inference.specs.Inferences as m
+use Rattle.wh_order_inference.specs.Inferences.{same_trees, bodies, arguments, part, lower, first_less, spine_parts, body, variable, meta_part, more_parts, letter_of}
+use Rattle.wh_order_inference.specs.Said.{letter, inference, inferences}
+use Rattle.wh_order_inference.specs.declared.inference.Inference.{Inference, out-Inference}
+use Rattle.wh_order_path.specs.Verdict.{some_strict}
 use Rattle.wh_order.proofs.CheckLemmas.{inference_is, drop_here, drop_end}
 
 letter_is : (i : Inference) → letter_of (inference i) ≡ letter (out-Inference i).letter

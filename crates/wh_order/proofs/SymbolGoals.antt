@@ -10,18 +10,18 @@ use Rattle.wh_types.specs.declared.simple_type.SimpleType.{SimpleType}
 use Rattle.wh_terms.specs.Tree.{Tm, bound, free, fun, meta, lam, app, Tms, none, more, tms_of, head}
 use Rattle.wh_terms.specs.Substitution.{opened}
 use Rattle.wh_terms.proofs.TypeTests.{same_ty-self}
-use Rattle.wh_inference.specs.Inferences.{Letter, lower, first_less, spine_parts, body, meta_part}
-use Rattle.wh_path_order.specs.Heads.{arguments_of, list_of}
-use Rattle.wh_path_order.specs.SameTrees.{same, all_same, same_list}
-use Rattle.wh_path_order.specs.Verdict.{greater, above, each, is_abstracted, symbol_tasks, above_tasks}
-use Rattle.wh_path_order.proofs.SameTreeLaws.{list_equal}
-use Rattle.wh_ordering.specs.Filterings.{FilteringData}
-use Rattle.wh_trees.specs.declared.tree.Tree.{Tree}
-use Rattle.wh_trees.specs.Trees.{tree, trees}
-use Rattle.wh_trees.specs.TreeParts.{World, Over, AllOver, item_at, IsMetaApplication, IsApplied, IsApplication, IsArgument, IsBody, HasArguments}
-use Rattle.wh_trees.proofs.TreeLemmas.{trees-length}
-use Rattle.wh_trees.proofs.PartLemmas.{no_argument, argument_is}
-use Rattle.wh_trees.proofs.SameLemmas.{FrontsDecided}
+use Rattle.wh_order_inference.specs.Inferences.{Letter, lower, first_less, spine_parts, body, meta_part}
+use Rattle.wh_order_path.specs.Heads.{arguments_of, list_of}
+use Rattle.wh_order_path.specs.SameTrees.{same, all_same, same_list}
+use Rattle.wh_order_path.specs.Verdict.{greater, above, each, is_abstracted, symbol_tasks, above_tasks}
+use Rattle.wh_order_path.proofs.SameTreeLaws.{list_equal}
+use Rattle.wh_order_node.specs.Filterings.{FilteringData}
+use Rattle.wh_order_trees.specs.declared.tree.Tree.{Tree}
+use Rattle.wh_order_trees.specs.Trees.{tree, trees}
+use Rattle.wh_order_trees.specs.TreeParts.{World, Over, AllOver, item_at, IsMetaApplication, IsApplied, IsApplication, IsArgument, IsBody, HasArguments}
+use Rattle.wh_order_trees.proofs.TreeLemmas.{trees-length}
+use Rattle.wh_order_trees.proofs.PartLemmas.{no_argument, argument_is}
+use Rattle.wh_order_trees.proofs.SameLemmas.{FrontsDecided}
 use Rattle.wh_order.specs.declared.goals.Goal.{Goal}
 use Rattle.wh_order.specs.Precedences.{order_of, HeadOrder}
 use Rattle.wh_order.specs.Claims.{HoldsGoals, AreSymbolGoals, AreAboveGoals}

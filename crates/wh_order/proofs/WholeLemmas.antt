@@ -7,12 +7,12 @@ use Rattle.wh_terms.specs.Substitution.{rename, renames, up_renaming}
 use Rattle.wh_terms.specs.Typing.{Symbols, Declared, Typed, typed_bound, typed_free, typed_fun, typed_meta, typed_lam, typed_app, AllTyped, typed_none, typed_more}
 use Rattle.wh_terms.specs.Rules.{RewriteRule, IsWellMade}
 use Rattle.wh_system.specs.CanonicalView.{side_of}
-use Rattle.wh_extended.specs.Kinds.{type_at, arrows, kind}
-use Rattle.wh_extended.specs.Long.{expand, finish, finish_argument, core, cores, long}
-use Rattle.wh_extended.specs.ExtendedSides.{missing, added, added_from, extended_metas, extended_side}
-use Rattle.wh_extended.proofs.LongLaws.{at_is, kind_is}
-use Rattle.wh_extended.proofs.TypeLists.{arrows-arguments, typed_spine}
-use Rattle.wh_extended.proofs.MoreMetas.{typed_wider, added_typed}
+use Rattle.wh_order_extended.specs.Kinds.{type_at, arrows, kind}
+use Rattle.wh_order_extended.specs.Long.{expand, finish, finish_argument, core, cores, long}
+use Rattle.wh_order_extended.specs.ExtendedSides.{missing, added, added_from, extended_metas, extended_side}
+use Rattle.wh_order_extended.proofs.LongLaws.{at_is, kind_is}
+use Rattle.wh_order_extended.proofs.TypeLists.{arrows-arguments, typed_spine}
+use Rattle.wh_order_extended.proofs.MoreMetas.{typed_wider, added_typed}
 use Rattle.wh_order.specs.Sifted.{IsWhole, AreWhole}
 
 module _ (S : Symbols) where

@@ -4,12 +4,12 @@ use Rattle.std.specs.Global.{Vec}
 use Rattle.wh_types.specs.declared.want.Or.{Or}
 use Rattle.wh_types.specs.Outcome.{MatchOr}
 use Rattle.wh_terms.specs.Tree.{head}
-use Rattle.wh_inference.specs.Inferences as m
-use Rattle.wh_path_order.specs.Verdict as v
-use Rattle.wh_path_order.specs.Verdict.{Task, symbol_tasks, above_tasks, greater_tasks, typed_tasks, at_least_tasks, tasks}
-use Rattle.wh_trees.specs.declared.tree.Tree.{Tree}
-use Rattle.wh_trees.specs.Trees.{tree}
-use Rattle.wh_trees.specs.TreeParts.{World, Over}
+use Rattle.wh_order_inference.specs.Inferences as m
+use Rattle.wh_order_path.specs.Verdict as v
+use Rattle.wh_order_path.specs.Verdict.{Task, symbol_tasks, above_tasks, greater_tasks, typed_tasks, at_least_tasks, tasks}
+use Rattle.wh_order_trees.specs.declared.tree.Tree.{Tree}
+use Rattle.wh_order_trees.specs.Trees.{tree}
+use Rattle.wh_order_trees.specs.TreeParts.{World, Over}
 use Rattle.wh_order.specs.declared.goals.Claim.{Claim}
 use Rattle.wh_order.specs.declared.goals.Claim.TheVariants.{AtLeast, Greater, Above}
 use Rattle.wh_order.specs.declared.goals.Side.{Side}

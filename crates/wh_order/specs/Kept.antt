@@ -2,14 +2,14 @@
 use Rattle.std.specs.Prelude.{ℕ, ◌-◌, ◌≡◌, List, [], ◌∷◌, map, Some, slice_get}
 use Rattle.wh_types.specs.Ty.{Ty}
 use Rattle.wh_terms.specs.Tree.{spine}
-use Rattle.wh_inference.specs.Filters.{Filter}
-use Rattle.wh_inference.specs.FilterText.{WrittenFilter, keeps, picks}
-use Rattle.wh_extended.specs.Kinds.{type_at}
-use Rattle.wh_extended.specs.Filtered.{filtered, kept_type}
-use Rattle.wh_ordering.specs.Filterings.{MarkFilter, IsProperAsWritten}
-use Rattle.wh_trees.specs.declared.tree.Tree.{Tree}
-use Rattle.wh_trees.specs.Trees.{tree, trees, IsHeadTree}
-use Rattle.wh_trees.specs.TreeParts.{World, Over, AllOver}
+use Rattle.wh_order_inference.specs.Filters.{Filter}
+use Rattle.wh_order_inference.specs.FilterText.{WrittenFilter, keeps, picks}
+use Rattle.wh_order_extended.specs.Kinds.{type_at}
+use Rattle.wh_order_extended.specs.Filtered.{filtered, kept_type}
+use Rattle.wh_order_node.specs.Filterings.{MarkFilter, IsProperAsWritten}
+use Rattle.wh_order_trees.specs.declared.tree.Tree.{Tree}
+use Rattle.wh_order_trees.specs.Trees.{tree, trees, IsHeadTree}
+use Rattle.wh_order_trees.specs.TreeParts.{World, Over, AllOver}
 use Rattle.wh_order.specs.declared.kept.Kept.{Kept}
 use Rattle.wh_order.specs.declared.kept.Kept.TheVariants.{Arguments, Instead}
 

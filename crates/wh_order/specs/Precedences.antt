@@ -1,8 +1,8 @@
 -- The precedences of symbols and marked symbols, as filters give them.
 use Rattle.std.specs.Prelude.{ℕ, ◌-◌, ◌≡◌, nat_lt, cond, length, Option, Some, None}
 use Rattle.wh_terms.specs.Tree.{Tm, fun, head}
-use Rattle.wh_extended.specs.Filtered.{precedences}
-use Rattle.wh_ordering.specs.Filterings.{FilteringData, filter_among, mark_among}
+use Rattle.wh_order_extended.specs.Filtered.{precedences}
+use Rattle.wh_order_node.specs.Filterings.{FilteringData, filter_among, mark_among}
 
 -- the precedences of symbols and marked symbols, where there are as many symbols as filters of symbols
 abbrev pub order_of : FilteringData → ℕ → ℕ

@@ -3,10 +3,10 @@ use Rattle.std.specs.Prelude.{ℕ, suc, ◌<◌, ◌≡◌, List, [], length, ma
 use Rattle.wh_terms.specs.Tree.{Tm, fun, meta, lam, app, Tms, none, more, tms_of}
 use Rattle.wh_terms.specs.Typing.{Symbols, Declared}
 use Rattle.wh_terms.specs.Rules.{RewriteRule}
-use Rattle.wh_extended.specs.Filtered.{collapsed, sift, symbol_arity}
-use Rattle.wh_ordering.specs.Filterings.{FilteringData, filters_of, filtered_signature}
-use Rattle.wh_trees.specs.declared.tree.Tree.{Tree}
-use Rattle.wh_trees.specs.Trees.{trees, EachOver}
+use Rattle.wh_order_extended.specs.Filtered.{collapsed, sift, symbol_arity}
+use Rattle.wh_order_node.specs.Filterings.{FilteringData, filters_of, filtered_signature}
+use Rattle.wh_order_trees.specs.declared.tree.Tree.{Tree}
+use Rattle.wh_order_trees.specs.Trees.{trees, EachOver}
 use Rattle.wh_order.specs.TreeSides.{AreFilters, IsTreeOf}
 
 -- each symbol in the tree is one of S, and has all its arguments, where k more stand behind the tree (ours)

@@ -6,16 +6,16 @@ use Rattle.wh_terms.specs.Rules.{RewriteRule}
 use Rattle.wh_system.specs.CanonicalView.{side_of}
 use Rattle.wh_pairs.specs.PairData.{PairData}
 use Rattle.wh_polycheck.specs.Marks.{marked_types, head_of_side}
-use Rattle.wh_inference.specs.declared.inference.Inference.{Inference}
-use Rattle.wh_inference.specs.Said.{inference}
-use Rattle.wh_extended.specs.ExtendedSides.{extended_metas, extended_call}
-use Rattle.wh_extended.specs.Filtered.{collapsed}
-use Rattle.wh_sides.specs.PairSides.{list_of_side}
-use Rattle.wh_path_order.specs.Lines.{filtered_side, filtered_call}
-use Rattle.wh_path_order.specs.Verdict.{line_verdict}
-use Rattle.wh_ordering.specs.Filterings.{FilteringData, filters_of, precedences_of, filtered_signature, AreProperSymbols, AreProperMarks}
-use Rattle.wh_trees.specs.declared.tree.Tree.{Tree}
-use Rattle.wh_trees.specs.Trees.{tree, IsOver}
+use Rattle.wh_order_inference.specs.declared.inference.Inference.{Inference}
+use Rattle.wh_order_inference.specs.Said.{inference}
+use Rattle.wh_order_extended.specs.ExtendedSides.{extended_metas, extended_call}
+use Rattle.wh_order_extended.specs.Filtered.{collapsed}
+use Rattle.wh_order_sides.specs.PairSides.{list_of_side}
+use Rattle.wh_order_path.specs.Lines.{filtered_side, filtered_call}
+use Rattle.wh_order_path.specs.Verdict.{line_verdict}
+use Rattle.wh_order_node.specs.Filterings.{FilteringData, filters_of, precedences_of, filtered_signature, AreProperSymbols, AreProperMarks}
+use Rattle.wh_order_trees.specs.declared.tree.Tree.{Tree}
+use Rattle.wh_order_trees.specs.Trees.{tree, IsOver}
 
 -- there is a filter for each symbol, and each filter is proper
 pub record AreFilters (S : Symbols) (rules : List RewriteRule) (D : FilteringData) : Type 0 where

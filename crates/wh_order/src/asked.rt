@@ -1,10 +1,10 @@
 //! What an inference asks for: the claims that its parts are for.
 
 ghost use Rattle.std.specs.Prelude.{ℕ, ◌≡◌, ◌↔◌, IfOk, IsTrue, length};
-ghost use Rattle.wh_inference.specs.Inferences.{Inferences, arguments, bodies, same_trees};
-ghost use Rattle.wh_inference.specs.Said as s;
-ghost use Rattle.wh_path_order.specs.Verdict.{some_strict};
-ghost use Rattle.wh_ordering.specs.FilteringView.{filtering_data};
+ghost use Rattle.wh_order_inference.specs.Inferences.{Inferences, arguments, bodies, same_trees};
+ghost use Rattle.wh_order_inference.specs.Said as s;
+ghost use Rattle.wh_order_path.specs.Verdict.{some_strict};
+ghost use Rattle.wh_order_node.specs.FilteringView.{filtering_data};
 ghost use Rattle.wh_order.specs.Claims.{AreAtLeastGoals, AreGoals, AreGreaterGoals, AreTypedGoals};
 ghost use Rattle.wh_order.specs.Precedences.{order_of};
 
@@ -12,9 +12,9 @@ use crate::goals::{Claim, Compared, Goal, Goals, Side, one, push_pairs};
 use crate::letters::above_goals;
 use crate::opened::open_tree;
 use std::alloc::{AllocError, Global};
-use wh_inference::{Inference, Letter};
-use wh_ordering::Filters;
-use wh_trees::{application_of, body_of, have_one_type, same_tree};
+use wh_order_inference::{Inference, Letter};
+use wh_order_node::Filters;
+use wh_order_trees::{application_of, body_of, have_one_type, same_tree};
 use wh_types::{same_type, sum};
 
 /// What the parts of an inference with this letter, this place and these parts are for, where it is for the goal.

@@ -2,13 +2,13 @@
 
 ghost use Rattle.std.specs.Prelude.{ℕ, ◌≡◌, ◌+◌};
 ghost use Rattle.wh_terms.specs.Tree.{bound, tms_of};
-ghost use Rattle.wh_path_order.specs.Heads.{nearest};
-ghost use Rattle.wh_path_order.specs.SameTrees.{all_same, same};
-ghost use Rattle.wh_path_order.specs.Verdict.{is_abstracted};
-ghost use Rattle.wh_trees.specs.TreeParts.{AllOver, Over, World};
-ghost use Rattle.wh_trees.specs.Trees.{tree, trees};
+ghost use Rattle.wh_order_path.specs.Heads.{nearest};
+ghost use Rattle.wh_order_path.specs.SameTrees.{all_same, same};
+ghost use Rattle.wh_order_path.specs.Verdict.{is_abstracted};
+ghost use Rattle.wh_order_trees.specs.TreeParts.{AllOver, Over, World};
+ghost use Rattle.wh_order_trees.specs.Trees.{tree, trees};
 
-use wh_trees::Tree;
+use wh_order_trees::Tree;
 
 /// Whether the tree is the meta-variable below `left` abstractions, and has `count` arguments, which are the variables
 /// of the `count` nearest binders.

@@ -9,19 +9,19 @@ ghost use Rattle.wh_system.specs.CanonicalView.{side_of};
 ghost use Rattle.wh_system.specs.SystemView.{system_data};
 ghost use Rattle.wh_pairs.specs.PairData.{pair_data};
 ghost use Rattle.wh_polycheck.specs.Marks.{head_of_side};
-ghost use Rattle.wh_extended.specs.ExtendedSides.{extended_side};
-ghost use Rattle.wh_ordering.specs.FilteringView.{filtering_data};
-ghost use Rattle.wh_ordering.specs.Ordering.{IsNarrow};
+ghost use Rattle.wh_order_extended.specs.ExtendedSides.{extended_side};
+ghost use Rattle.wh_order_node.specs.FilteringView.{filtering_data};
+ghost use Rattle.wh_order_node.specs.Ordering.{IsNarrow};
 ghost use Rattle.wh_order.specs.TreeSides.{AreFilters, HasTypedCalls, IsTreeOfCall, IsTreeOfSide, extended_pair_side};
 
 use crate::kept::filtered_mark;
 use crate::sift::{sift, sift_list};
 use std::alloc::Global;
-use wh_ordering::Filters;
+use wh_order_node::Filters;
 use wh_pairs::Pair;
-use wh_sides::{TooWide, extended_arguments, extended_rule};
+use wh_order_sides::{TooWide, extended_arguments, extended_rule};
 use wh_system::System;
-use wh_trees::Tree;
+use wh_order_trees::Tree;
 use wh_types::Or;
 
 /// The right side of a rule, or its left side, with all its arguments and behind the filters (Kop 2012).

@@ -1,13 +1,13 @@
 //! Claims about two trees, which inferences are for.
 
 ghost use Rattle.std.specs.Prelude.{ℕ, ◌≡◌, ◌∷◌, ◌++◌, [], List, IfOk, OnOk, length};
-ghost use Rattle.wh_path_order.specs.Verdict.{Task, each, pairwise};
-ghost use Rattle.wh_trees.specs.TreeParts.{AllOver, Over, World};
-ghost use Rattle.wh_trees.specs.Trees.{tree, trees};
+ghost use Rattle.wh_order_path.specs.Verdict.{Task, each, pairwise};
+ghost use Rattle.wh_order_trees.specs.TreeParts.{AllOver, Over, World};
+ghost use Rattle.wh_order_trees.specs.Trees.{tree, trees};
 ghost use Rattle.wh_order.specs.Claims.{HoldsGoals, IsGoalOver, StandFor, said, side_tree, task};
 
 use std::alloc::{AllocError, Global};
-use wh_trees::Tree;
+use wh_order_trees::Tree;
 
 /// What is claimed of a left and of a right tree.
 #[derive(Clone, Copy)]

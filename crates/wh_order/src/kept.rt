@@ -2,17 +2,17 @@
 
 ghost use Rattle.std.specs.Prelude.{ℕ, ◌+◌, ◌-◌, ◌≡◌, ◌<◌, ◌≤◌, ◌↔◌, All, IsTrue, List, Some, IfOk, length, map, reverse, slice_get};
 ghost use Rattle.wh_types.specs.Ty.{Ty};
-ghost use Rattle.wh_inference.specs.FilterText.{WrittenFilter, filter_of};
-ghost use Rattle.wh_inference.specs.Said.{written_filter};
-ghost use Rattle.wh_extended.specs.Filtered.{IncreasingFrom};
-ghost use Rattle.wh_ordering.specs.FilteringView.{filtering_data};
-ghost use Rattle.wh_ordering.specs.Filterings.{IsProperAsWritten, mark_among};
+ghost use Rattle.wh_order_inference.specs.FilterText.{WrittenFilter, filter_of};
+ghost use Rattle.wh_order_inference.specs.Said.{written_filter};
+ghost use Rattle.wh_order_extended.specs.Filtered.{IncreasingFrom};
+ghost use Rattle.wh_order_node.specs.FilteringView.{filtering_data};
+ghost use Rattle.wh_order_node.specs.Filterings.{IsProperAsWritten, mark_among};
 ghost use Rattle.wh_order.specs.Kept.{AreAt, HasProperMark, IsFiltered, IsLeft, IsSpineOf};
 
 use std::alloc::{AllocError, Global};
-use wh_inference::Filter;
-use wh_ordering::Filters;
-use wh_trees::{Tree, Trees};
+use wh_order_inference::Filter;
+use wh_order_node::Filters;
+use wh_order_trees::{Tree, Trees};
 use wh_types::sum;
 
 /// What a filter leaves of a symbol with its arguments.

@@ -2,13 +2,13 @@
 
 ghost use Rattle.std.specs.Prelude.{ℕ, ◌≡◌, IfOk, length};
 ghost use Rattle.wh_terms.specs.Tree.{fun, head};
-ghost use Rattle.wh_inference.specs.Inferences.{body, first_less, lower, meta_part, part, spine_parts, variable};
-ghost use Rattle.wh_inference.specs.Said as s;
-ghost use Rattle.wh_path_order.specs.Heads.{arguments_of};
-ghost use Rattle.wh_path_order.specs.Verdict.{above, each};
-ghost use Rattle.wh_ordering.specs.FilteringView.{filtering_data};
-ghost use Rattle.wh_trees.specs.TreeParts.{Over, World};
-ghost use Rattle.wh_trees.specs.Trees.{tree};
+ghost use Rattle.wh_order_inference.specs.Inferences.{body, first_less, lower, meta_part, part, spine_parts, variable};
+ghost use Rattle.wh_order_inference.specs.Said as s;
+ghost use Rattle.wh_order_path.specs.Heads.{arguments_of};
+ghost use Rattle.wh_order_path.specs.Verdict.{above, each};
+ghost use Rattle.wh_order_node.specs.FilteringView.{filtering_data};
+ghost use Rattle.wh_order_trees.specs.TreeParts.{Over, World};
+ghost use Rattle.wh_order_trees.specs.Trees.{tree};
 ghost use Rattle.wh_order.specs.Claims.{AreAboveGoals, AreSymbolGoals, HoldsGoals};
 ghost use Rattle.wh_order.specs.Precedences.{order_of};
 
@@ -17,9 +17,9 @@ use crate::goals::{Claim, Compared, Goal, Goals, Side, one, push_each};
 use crate::opened::open_tree;
 use crate::precedence::precedence_of;
 use std::alloc::{AllocError, Global};
-use wh_inference::Letter;
-use wh_ordering::Filters;
-use wh_trees::{
+use wh_order_inference::Letter;
+use wh_order_node::Filters;
+use wh_order_trees::{
     Tree, application_of, argument_at, arguments_of, body_of, meta_of, number_of, same_before,
 };
 use wh_types::sum;

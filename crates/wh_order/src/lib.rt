@@ -17,4 +17,4 @@ pub use asked::goals_of;
 pub use check::{BadInference, check_inference};
 pub use filtered::{filtered_pair, filtered_rule};
 pub use goals::{Claim, Goal, Goals, Side};
-pub use wh_sides::TooWide;
+pub use wh_order_sides::TooWide;

@@ -5,11 +5,11 @@ ghost use Rattle.wh_types.specs.Erase.{ty};
 ghost use Rattle.wh_terms.specs.Substitution.{act, cons, opened};
 ghost use Rattle.wh_terms.specs.Tree.{bound, free};
 ghost use Rattle.wh_terms.specs.Under.{ups, ups_free};
-ghost use Rattle.wh_trees.specs.Trees.{IsHeadTree, tree, trees};
-ghost use Rattle.wh_trees.specs.TreeParts.{AllOver, Over, World};
+ghost use Rattle.wh_order_trees.specs.Trees.{IsHeadTree, tree, trees};
+ghost use Rattle.wh_order_trees.specs.TreeParts.{AllOver, Over, World};
 
 use std::alloc::{AllocError, Global};
-use wh_trees::{Tree, Trees};
+use wh_order_trees::{Tree, Trees};
 use wh_types::{SimpleType, sum};
 
 /// The body of an abstraction with a free variable for the abstraction's variable. It is a copy.

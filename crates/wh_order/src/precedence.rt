@@ -1,18 +1,18 @@
 //! The precedence of the symbol that heads a tree.
 
 ghost use Rattle.std.specs.Prelude.{ℕ, ◌≡◌, length};
-ghost use Rattle.wh_inference.specs.Said.{written_filter};
-ghost use Rattle.wh_inference.specs.FilterText.{filter_of};
-ghost use Rattle.wh_extended.specs.Filtered.{precedence};
-ghost use Rattle.wh_ordering.specs.FilteringView.{filtering_data};
-ghost use Rattle.wh_ordering.specs.Filterings.{filter_among, mark_among};
-ghost use Rattle.wh_trees.specs.Trees.{tree};
-ghost use Rattle.wh_trees.specs.TreeParts.{Over, World};
+ghost use Rattle.wh_order_inference.specs.Said.{written_filter};
+ghost use Rattle.wh_order_inference.specs.FilterText.{filter_of};
+ghost use Rattle.wh_order_extended.specs.Filtered.{precedence};
+ghost use Rattle.wh_order_node.specs.FilteringView.{filtering_data};
+ghost use Rattle.wh_order_node.specs.Filterings.{filter_among, mark_among};
+ghost use Rattle.wh_order_trees.specs.Trees.{tree};
+ghost use Rattle.wh_order_trees.specs.TreeParts.{Over, World};
 ghost use Rattle.wh_order.specs.Precedences.{HeadOrder};
 
-use wh_inference::Filter;
-use wh_ordering::Filters;
-use wh_trees::Tree;
+use wh_order_inference::Filter;
+use wh_order_node::Filters;
+use wh_order_trees::Tree;
 
 /// The precedence of the symbol, or of the marked symbol, that heads the tree; `None` exactly where none does.
 pub fn precedence_of(filters: &Filters, t: &Tree) -> Option<u32>

@@ -3,16 +3,16 @@
 ghost use Rattle.std.specs.Prelude.{◌≡◌, [], IfOk, map, reverse};
 ghost use Rattle.wh_types.specs.Erase.{ty};
 ghost use Rattle.wh_terms.specs.Erase.{declared_metas, tm};
-ghost use Rattle.wh_extended.specs.Filtered.{collapse, collapsed};
-ghost use Rattle.wh_extended.specs.Kinds.{out_at};
-ghost use Rattle.wh_ordering.specs.FilteringView.{filtering_data};
+ghost use Rattle.wh_order_extended.specs.Filtered.{collapse, collapsed};
+ghost use Rattle.wh_order_extended.specs.Kinds.{out_at};
+ghost use Rattle.wh_order_node.specs.FilteringView.{filtering_data};
 ghost use Rattle.wh_order.specs.Sifted.{AreSifted, IsSifted};
 
 use crate::kept::{applied, filtered_symbol};
 use std::alloc::{AllocError, Global};
-use wh_ordering::Filters;
+use wh_order_node::Filters;
 use wh_terms::{MetaDecl, Term, Terms};
-use wh_trees::{Tree, Trees};
+use wh_order_trees::{Tree, Trees};
 use wh_types::SimpleType;
 
 /// The term behind the filters (Kop 2012).

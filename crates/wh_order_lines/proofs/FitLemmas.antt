@@ -16,25 +16,25 @@ use Rattle.wh_pairs.specs.PairData.{PairData}
 use Rattle.wh_pairs.proofs.ByPlace.{contains_at}
 use Rattle.wh_hopoly.specs.Evaluation.{type_at}
 use Rattle.wh_polycheck.specs.Marks.{marked_types}
-use Rattle.wh_inference.specs.Filters.{Filter, keep}
-use Rattle.wh_inference.specs.FilterText.{filter_of}
-use Rattle.wh_inference.specs.Inferences as m
-use Rattle.wh_inference.specs.Inferences.{Letter, same_trees, bodies, part, lower, first_less, spine_parts, body, variable, meta_part, Inference, infer, Inferences, no_parts, more_parts}
-use Rattle.wh_inference.specs.InferenceText.{form}
-use Rattle.wh_inference.specs.InferenceLimits.{FormFits, InferenceFits, PartsFit, depth, deepest, deepest_inference}
-use Rattle.wh_extended.specs.Kinds.{type_at as kind_at}
-use Rattle.wh_extended.specs.ExtendedSides.{extended_metas, extended_side, extended_call}
-use Rattle.wh_extended.specs.Filtered.{IncreasingFrom, IsProper, collapsed}
-use Rattle.wh_path_order.specs.Heads.{arguments_of, list_of}
-use Rattle.wh_path_order.specs.Lines.{filtered_side, filtered_call}
-use Rattle.wh_path_order.specs.Verdict.{Claim, at_least, greater, above, Task, each, pairwise, typed_tasks, tasks, verdict, verdicts}
-use Rattle.wh_path_order.proofs.AskedTasks.{split, first_part, AboveAsks, asks_part, asks_lower, asks_first_less, asks_spine, asks_body, asks_variable, asks_meta, above_asks, GreaterAsks, asks_bodies, asks_arguments, asks_above, typed_asks, AtLeastAsks, asks_same, asks_greater, at_least_asks}
-use Rattle.wh_ordering.specs.Filterings.{FilteringData, IsProperAsWritten, filters_of, filtered_signature, precedences_of, filter_among, mark_among}
-use Rattle.wh_ordering.specs.Ordering.{IsGoodRule, IsGoodPair}
+use Rattle.wh_order_inference.specs.Filters.{Filter, keep}
+use Rattle.wh_order_inference.specs.FilterText.{filter_of}
+use Rattle.wh_order_inference.specs.Inferences as m
+use Rattle.wh_order_inference.specs.Inferences.{Letter, same_trees, bodies, part, lower, first_less, spine_parts, body, variable, meta_part, Inference, infer, Inferences, no_parts, more_parts}
+use Rattle.wh_order_inference.specs.InferenceText.{form}
+use Rattle.wh_order_inference.specs.InferenceLimits.{FormFits, InferenceFits, PartsFit, depth, deepest, deepest_inference}
+use Rattle.wh_order_extended.specs.Kinds.{type_at as kind_at}
+use Rattle.wh_order_extended.specs.ExtendedSides.{extended_metas, extended_side, extended_call}
+use Rattle.wh_order_extended.specs.Filtered.{IncreasingFrom, IsProper, collapsed}
+use Rattle.wh_order_path.specs.Heads.{arguments_of, list_of}
+use Rattle.wh_order_path.specs.Lines.{filtered_side, filtered_call}
+use Rattle.wh_order_path.specs.Verdict.{Claim, at_least, greater, above, Task, each, pairwise, typed_tasks, tasks, verdict, verdicts}
+use Rattle.wh_order_path.proofs.AskedTasks.{split, first_part, AboveAsks, asks_part, asks_lower, asks_first_less, asks_spine, asks_body, asks_variable, asks_meta, above_asks, GreaterAsks, asks_bodies, asks_arguments, asks_above, typed_asks, AtLeastAsks, asks_same, asks_greater, at_least_asks}
+use Rattle.wh_order_node.specs.Filterings.{FilteringData, IsProperAsWritten, filters_of, filtered_signature, precedences_of, filter_among, mark_among}
+use Rattle.wh_order_node.specs.Ordering.{IsGoodRule, IsGoodPair}
 use Rattle.wh_order.specs.TreeSides.{AreFilters}
 use Rattle.wh_order.proofs.FilterLemmas.{type_there, filter_there, symbol_filter, mark_proper}
-use Rattle.wh_infer.proofs.TaskLemmas.{claimed}
-use Rattle.wh_path_order.proofs.SameTreeLaws.{some_none}
+use Rattle.wh_order_infer.proofs.TaskLemmas.{claimed}
+use Rattle.wh_order_path.proofs.SameTreeLaws.{some_none}
 use Rattle.wh_order_lines.specs.Oriented.{IsWithin}
 use Rattle.wh_order_lines.proofs.SpineLemmas.{SpinesTo, AllSpinesTo, one_of, arguments_to, count_to, opened_to, sift_to}
 

@@ -6,20 +6,20 @@ use Rattle.wh_terms.specs.Tree.{Tm}
 use Rattle.wh_terms.specs.Typing.{Symbols, Declared}
 use Rattle.wh_terms.specs.Rules.{RewriteRule}
 use Rattle.wh_pairs.specs.PairData.{PairData}
-use Rattle.wh_inference.specs.Inferences as m
-use Rattle.wh_inference.specs.Inferences.{entries}
-use Rattle.wh_inference.specs.Said.{inference}
-use Rattle.wh_inference.specs.declared.inference.Inference.{Inference}
-use Rattle.wh_extended.specs.ExtendedSides.{extended_metas}
-use Rattle.wh_extended.specs.Filtered.{collapsed}
-use Rattle.wh_path_order.specs.Verdict.{at_least, greater, Task, line_verdict}
-use Rattle.wh_ordering.specs.Filterings.{FilteringData, precedences_of, filtered_signature}
-use Rattle.wh_ordering.specs.Ordering.{IsGoodPair, HasNarrowSides, HasNarrowCalls}
-use Rattle.wh_trees.specs.declared.tree.Tree.{Tree}
-use Rattle.wh_trees.specs.Trees.{tree}
+use Rattle.wh_order_inference.specs.Inferences as m
+use Rattle.wh_order_inference.specs.Inferences.{entries}
+use Rattle.wh_order_inference.specs.Said.{inference}
+use Rattle.wh_order_inference.specs.declared.inference.Inference.{Inference}
+use Rattle.wh_order_extended.specs.ExtendedSides.{extended_metas}
+use Rattle.wh_order_extended.specs.Filtered.{collapsed}
+use Rattle.wh_order_path.specs.Verdict.{at_least, greater, Task, line_verdict}
+use Rattle.wh_order_node.specs.Filterings.{FilteringData, precedences_of, filtered_signature}
+use Rattle.wh_order_node.specs.Ordering.{IsGoodPair, HasNarrowSides, HasNarrowCalls}
+use Rattle.wh_order_trees.specs.declared.tree.Tree.{Tree}
+use Rattle.wh_order_trees.specs.Trees.{tree}
 use Rattle.wh_order.specs.TreeSides.{AreFilters, AreSides, IsTreeOfSide, IsTreeOfCall}
-use Rattle.wh_infer.specs.Lines.{Shows, IsFound}
-use Rattle.wh_infer.proofs.TaskLemmas.{stricter_good, weaker_good}
+use Rattle.wh_order_infer.specs.Lines.{Shows, IsFound}
+use Rattle.wh_order_infer.proofs.TaskLemmas.{stricter_good, weaker_good}
 use Rattle.wh_order_lines.specs.Oriented.{IsWithin, OrientsStrictly, MeetsPair}
 use Rattle.wh_order_lines.specs.OrderLines.{IsPairLine, IsRuleLineOrNone, IsPairLineOrNone, IsAnyPairLineOrNone, IsLineBetween}
 use Rattle.wh_order_lines.specs.declared.lines.PairLine.{PairLine}

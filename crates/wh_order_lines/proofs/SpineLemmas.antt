@@ -5,9 +5,9 @@ use Rattle.std.proofs.lemmas.List.{length-append}
 use Rattle.wh_types.specs.Ty.{Ty}
 use Rattle.wh_terms.specs.Tree.{Tm, bound, free, fun, meta, lam, app, Tms, none, more, spine, head}
 use Rattle.wh_terms.specs.Substitution.{rename, up, up_free, act, acts, cons, opened}
-use Rattle.wh_inference.specs.Filters.{Filter, keep, pick}
-use Rattle.wh_extended.specs.Filtered.{collapse, chosen, filtered, sift, sifts}
-use Rattle.wh_path_order.specs.Heads.{arguments_of}
+use Rattle.wh_order_inference.specs.Filters.{Filter, keep, pick}
+use Rattle.wh_order_extended.specs.Filtered.{collapse, chosen, filtered, sift, sifts}
+use Rattle.wh_order_path.specs.Heads.{arguments_of}
 
 -- no symbol in the tree has more than k arguments, where n more stand behind the tree
 abbrev mutual

@@ -8,12 +8,12 @@ use Rattle.wh_pairs.proofs.Increasing.{one_place, increasing_at}
 use Rattle.wh_pairs.proofs.PairLemmas.{increasing_push}
 use Rattle.wh_pairs.proofs.ByPlace.{some_one, contains_at}
 use Rattle.wh_pairs.proofs.SetLemmas.{all_from_members}
-use Rattle.wh_reduction.specs.TaskData.{TaskData}
-use Rattle.wh_inference.specs.Inferences as m
-use Rattle.wh_inference.specs.Said.{inference}
-use Rattle.wh_inference.specs.declared.inference.Inference.{Inference}
-use Rattle.wh_ordering.specs.Filterings.{FilteringData}
-use Rattle.wh_space.proofs.PushLemmas.{EachAt, each_push, map_push}
+use Rattle.wh_reduction_pairs.specs.TaskData.{TaskData}
+use Rattle.wh_order_inference.specs.Inferences as m
+use Rattle.wh_order_inference.specs.Said.{inference}
+use Rattle.wh_order_inference.specs.declared.inference.Inference.{Inference}
+use Rattle.wh_order_node.specs.Filterings.{FilteringData}
+use Rattle.wh_poly_space.proofs.PushLemmas.{EachAt, each_push, map_push}
 use Rattle.wh_order_lines.specs.OrderLines.{IsPairLine}
 use Rattle.wh_order_lines.specs.OrderWalks.{IsLineOfRule, AreRuleLines, IsDropped, IsLineOfPair, ArePairLines}
 use Rattle.wh_order_lines.specs.declared.lines.PairLine.{PairLine}

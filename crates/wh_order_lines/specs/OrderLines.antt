@@ -3,14 +3,14 @@ use Rattle.std.specs.Prelude.{◌≢◌, ◌↔◌, List, Option, Some, None, tr
 use Rattle.wh_terms.specs.Typing.{Symbols}
 use Rattle.wh_terms.specs.Rules.{RewriteRule}
 use Rattle.wh_pairs.specs.PairData.{PairData}
-use Rattle.wh_inference.specs.Inferences.{Inference, letter_of, same_trees}
-use Rattle.wh_inference.specs.Said.{inference}
-use Rattle.wh_inference.specs.declared.inference.Inference as made
-use Rattle.wh_ordering.specs.Filterings.{FilteringData}
-use Rattle.wh_ordering.specs.Ordering.{IsGoodRule, IsGoodPair, HasNarrowSides, HasNarrowCalls}
-use Rattle.wh_path_order.specs.Verdict.{at_least, greater}
-use Rattle.wh_trees.specs.declared.tree.Tree.{Tree}
-use Rattle.wh_infer.specs.Lines.{IsFound}
+use Rattle.wh_order_inference.specs.Inferences.{Inference, letter_of, same_trees}
+use Rattle.wh_order_inference.specs.Said.{inference}
+use Rattle.wh_order_inference.specs.declared.inference.Inference as made
+use Rattle.wh_order_node.specs.Filterings.{FilteringData}
+use Rattle.wh_order_node.specs.Ordering.{IsGoodRule, IsGoodPair, HasNarrowSides, HasNarrowCalls}
+use Rattle.wh_order_path.specs.Verdict.{at_least, greater}
+use Rattle.wh_order_trees.specs.declared.tree.Tree.{Tree}
+use Rattle.wh_order_infer.specs.Lines.{IsFound}
 use Rattle.wh_order_lines.specs.Oriented.{IsWithin, OrientsStrictly, MeetsRule, MeetsPair}
 use Rattle.wh_order_lines.specs.declared.lines.PairLine.{PairLine}
 

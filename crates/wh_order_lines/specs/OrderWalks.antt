@@ -2,11 +2,11 @@
 use Rattle.std.specs.Prelude.{ℕ, ◌≡◌, ◌≢◌, ◌↔◌, List, Some, All, Contains, length, map, slice_get}
 use Rattle.wh_terms.specs.Rules.{RewriteRule}
 use Rattle.wh_pairs.specs.PairData.{PairData, IsIncreasing}
-use Rattle.wh_reduction.specs.TaskData.{TaskData}
-use Rattle.wh_inference.specs.Inferences.{Inference, letter_of, same_trees}
-use Rattle.wh_inference.specs.Said.{inference}
-use Rattle.wh_ordering.specs.Filterings.{FilteringData}
-use Rattle.wh_ordering.specs.Ordering.{IsGoodPair, HasNarrowCalls}
+use Rattle.wh_reduction_pairs.specs.TaskData.{TaskData}
+use Rattle.wh_order_inference.specs.Inferences.{Inference, letter_of, same_trees}
+use Rattle.wh_order_inference.specs.Said.{inference}
+use Rattle.wh_order_node.specs.Filterings.{FilteringData}
+use Rattle.wh_order_node.specs.Ordering.{IsGoodPair, HasNarrowCalls}
 use Rattle.wh_order_lines.specs.Oriented.{IsWithin, OrientsStrictly, MeetsRule, MeetsPair}
 use Rattle.wh_order_lines.specs.OrderLines.{IsRuleLine}
 use Rattle.wh_order_lines.specs.declared.walks.PairLines.{PairLines}

@@ -3,10 +3,10 @@ use Rattle.std.specs.Prelude.{◌≢◌, ◌<◌, ◌≤◌, ◌^◌, List}
 use Rattle.wh_terms.specs.Typing.{Symbols}
 use Rattle.wh_terms.specs.Rules.{RewriteRule}
 use Rattle.wh_pairs.specs.PairData.{PairData}
-use Rattle.wh_inference.specs.Inferences.{Inference, letter_of, same_trees, entries}
-use Rattle.wh_inference.specs.InferenceLimits.{depth, deepest_inference}
-use Rattle.wh_ordering.specs.Filterings.{FilteringData}
-use Rattle.wh_ordering.specs.Ordering.{IsGoodRule, IsGoodPair, HasNarrowSides, HasNarrowCalls}
+use Rattle.wh_order_inference.specs.Inferences.{Inference, letter_of, same_trees, entries}
+use Rattle.wh_order_inference.specs.InferenceLimits.{depth, deepest_inference}
+use Rattle.wh_order_node.specs.Filterings.{FilteringData}
+use Rattle.wh_order_node.specs.Ordering.{IsGoodRule, IsGoodPair, HasNarrowSides, HasNarrowCalls}
 
 -- the inference is within the limits of a line: it nests at most 64 deep and has fewer than 2^32 entries
 pub record IsWithin (i : Inference) : Type 0 where

@@ -4,10 +4,10 @@ ghost use Rattle.wh_terms.specs.Rules.{RewriteRule};
 ghost use Rattle.wh_system.specs.Systems.{SystemData};
 ghost use Rattle.wh_system.specs.WellMade.{IsWellMadeSystem};
 ghost use Rattle.wh_pairs.specs.PairData.{PairData};
-ghost use Rattle.wh_inference.specs.Inferences.{Inference};
-ghost use Rattle.wh_inference.specs.InferenceLimits.{InferenceFits};
-ghost use Rattle.wh_ordering.specs.Filterings.{FilteringData};
-ghost use Rattle.wh_ordering.specs.Ordering.{IsGoodPair, IsGoodRule};
+ghost use Rattle.wh_order_inference.specs.Inferences.{Inference};
+ghost use Rattle.wh_order_inference.specs.InferenceLimits.{InferenceFits};
+ghost use Rattle.wh_order_node.specs.Filterings.{FilteringData};
+ghost use Rattle.wh_order_node.specs.Ordering.{IsGoodPair, IsGoodRule};
 ghost use Rattle.wh_order.specs.TreeSides.{AreFilters};
 ghost use Rattle.wh_order_lines.specs.Oriented.{IsWithin};
 

@@ -5,22 +5,22 @@ ghost use Rattle.wh_terms.specs.Rules.{RewriteRule};
 ghost use Rattle.wh_system.specs.CanonicalView.{side_of};
 ghost use Rattle.wh_system.specs.SystemView.{system_data};
 ghost use Rattle.wh_pairs.specs.PairData.{pair_data};
-ghost use Rattle.wh_extended.specs.ExtendedSides.{extended_side};
-ghost use Rattle.wh_path_order.specs.Verdict.{greater};
-ghost use Rattle.wh_ordering.specs.FilteringView.{filtering_data};
-ghost use Rattle.wh_ordering.specs.Ordering.{IsNarrow};
+ghost use Rattle.wh_order_extended.specs.ExtendedSides.{extended_side};
+ghost use Rattle.wh_order_path.specs.Verdict.{greater};
+ghost use Rattle.wh_order_node.specs.FilteringView.{filtering_data};
+ghost use Rattle.wh_order_node.specs.Ordering.{IsNarrow};
 ghost use Rattle.wh_order.specs.TreeSides.{AreFilters, HasTypedCalls, IsTreeOfCall, IsTreeOfSide, extended_pair_side};
-ghost use Rattle.wh_infer.specs.Lines.{IsFound};
+ghost use Rattle.wh_order_infer.specs.Lines.{IsFound};
 ghost use Rattle.wh_order_lines.specs.OrderLines.{IsAnyPairLineOrNone, IsLineBetween, IsPairLineOrNone, IsRuleLineOrNone};
 
 use std::alloc::{AllocError, Global};
-use wh_infer::{find_greater, find_inference};
-use wh_inference::Inference;
+use wh_order_infer::{find_greater, find_inference};
+use wh_order_inference::Inference;
 use wh_order::{filtered_pair, filtered_rule};
-use wh_ordering::Filters;
+use wh_order_node::Filters;
 use wh_pairs::Pair;
 use wh_system::System;
-use wh_trees::Tree;
+use wh_order_trees::Tree;
 use wh_types::Or;
 
 /// The inference of a pair, and whether it shows that its left side is greater.

@@ -3,18 +3,18 @@
 ghost use Rattle.std.specs.Prelude.{◌↔◌, ◌<◌, Contains, IfOk, IsTrue, length, map};
 ghost use Rattle.wh_types.specs.Outcome.{MatchOr};
 ghost use Rattle.wh_pairs.specs.PairData.{PairData};
-ghost use Rattle.wh_reduction.specs.TaskData.{IsTask};
-ghost use Rattle.wh_reduction.specs.TaskView.{task_data};
-ghost use Rattle.wh_inference.specs.Said.{inference};
-ghost use Rattle.wh_ordering.specs.FilteringView.{filtering_data};
+ghost use Rattle.wh_reduction_pairs.specs.TaskData.{IsTask};
+ghost use Rattle.wh_reduction_pairs.specs.TaskView.{task_data};
+ghost use Rattle.wh_order_inference.specs.Said.{inference};
+ghost use Rattle.wh_order_node.specs.FilteringView.{filtering_data};
 ghost use Rattle.wh_order.specs.TreeSides.{AreFilters, HasTypedCalls};
 ghost use Rattle.wh_order_lines.specs.OrderWalks.{AreLinesOfPairs, AreRuleLines, IsFailingPair, IsFailingRule};
 
 use crate::lines::{any_pair_line, pair_line, rule_line};
 use std::alloc::{AllocError, Global};
-use wh_inference::Inferences;
-use wh_ordering::Filters;
-use wh_reduction::Task;
+use wh_order_inference::Inferences;
+use wh_order_node::Filters;
+use wh_reduction_pairs::Task;
 use wh_types::{Numbers, Or};
 
 /// The inferences of the pairs of a set, and the numbers of those whose left side is greater.

@@ -6,10 +6,10 @@ use Rattle.wh_terms.specs.Tree.{Tm, bound, free, fun, meta, lam, app, Tms, none,
 use Rattle.wh_terms.specs.Substitution.{up_renaming, rename, renames, up, up_free, act, acts, cons, opened}
 use Rattle.wh_terms.specs.Typing.{Symbols, Declared}
 use Rattle.wh_terms.specs.Rules.{RewriteRule}
-use Rattle.wh_extended.specs.Kinds.{kind}
-use Rattle.wh_extended.specs.Long.{expand, finish, finish_argument, core, cores, long}
-use Rattle.wh_extended.specs.ExtendedSides.{missing, added_from, extended_metas, extended_side}
-use Rattle.wh_path_order.specs.Heads.{arguments_of, list_of}
+use Rattle.wh_order_extended.specs.Kinds.{kind}
+use Rattle.wh_order_extended.specs.Long.{expand, finish, finish_argument, core, cores, long}
+use Rattle.wh_order_extended.specs.ExtendedSides.{missing, added_from, extended_metas, extended_side}
+use Rattle.wh_order_path.specs.Heads.{arguments_of, list_of}
 use Rattle.wh_order_local.specs.Only.{Only, AllOnly}
 
 module _ (P : ℕ → Type 0) where

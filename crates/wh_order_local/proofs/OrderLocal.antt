@@ -8,17 +8,17 @@ use Rattle.wh_terms.specs.Rules.{RewriteRule, IsWellMade}
 use Rattle.wh_system.specs.CanonicalView.{side_of}
 use Rattle.wh_pairs.specs.PairData.{PairData}
 use Rattle.wh_polycheck.specs.Marks.{marked_types}
-use Rattle.wh_inference.specs.Filters.{Filter}
-use Rattle.wh_inference.specs.Inferences.{Inference}
-use Rattle.wh_extended.specs.Kinds.{type_at}
-use Rattle.wh_extended.specs.Long.{long}
-use Rattle.wh_extended.specs.ExtendedSides.{extended_metas, extended_side, extended_call, marked_number}
-use Rattle.wh_extended.specs.Filtered.{sift, collapsed, kept_type, kept_types, precedence, symbol_arity, IsProper}
-use Rattle.wh_extended.proofs.TypeLists.{typed_length}
-use Rattle.wh_path_order.specs.Verdict.{at_least, line_verdict}
-use Rattle.wh_path_order.specs.Lines.{filtered_side, filtered_call}
-use Rattle.wh_ordering.specs.Filterings.{FilteringData, filters_of, precedences_of, filtered_signature, argument_types}
-use Rattle.wh_ordering.specs.Ordering.{IsGoodRule, IsGoodPair}
+use Rattle.wh_order_inference.specs.Filters.{Filter}
+use Rattle.wh_order_inference.specs.Inferences.{Inference}
+use Rattle.wh_order_extended.specs.Kinds.{type_at}
+use Rattle.wh_order_extended.specs.Long.{long}
+use Rattle.wh_order_extended.specs.ExtendedSides.{extended_metas, extended_side, extended_call, marked_number}
+use Rattle.wh_order_extended.specs.Filtered.{sift, collapsed, kept_type, kept_types, precedence, symbol_arity, IsProper}
+use Rattle.wh_order_extended.proofs.TypeLists.{typed_length}
+use Rattle.wh_order_path.specs.Verdict.{at_least, line_verdict}
+use Rattle.wh_order_path.specs.Lines.{filtered_side, filtered_call}
+use Rattle.wh_order_node.specs.Filterings.{FilteringData, filters_of, precedences_of, filtered_signature, argument_types}
+use Rattle.wh_order_node.specs.Ordering.{IsGoodRule, IsGoodPair}
 use Rattle.wh_order.specs.TreeSides.{AreFilters, HasTypedCalls}
 use Rattle.wh_order.proofs.FilterLemmas.{type_there, filter_there, symbol_filter, mark_filter_of, mark_proper, proper_marks}
 use Rattle.wh_order.proofs.WholeLemmas.{whole_arguments, whole_side}

@@ -5,8 +5,8 @@ use Rattle.std.specs.List.{AllByRecursion}
 use Rattle.wh_types.specs.Ty.{Ty, sort}
 use Rattle.wh_terms.specs.Tree.{Tm, bound, free, fun, meta, lam, app, Tms, none, more, tms_of, spine}
 use Rattle.wh_terms.specs.Typing.{Symbols}
-use Rattle.wh_inference.specs.Filters.{Filter, keep, pick}
-use Rattle.wh_extended.specs.Filtered.{collapse, chosen, filtered, sift, sifts, symbol_arity, IncreasingFrom, IsProper}
+use Rattle.wh_order_inference.specs.Filters.{Filter, keep, pick}
+use Rattle.wh_order_extended.specs.Filtered.{collapse, chosen, filtered, sift, sifts, symbol_arity, IncreasingFrom, IsProper}
 use Rattle.wh_order.specs.Sifted.{IsWhole, AreWhole}
 use Rattle.wh_order_local.specs.Only.{Only, AllOnly}
 use Rattle.wh_order_local.proofs.OnlyLemmas.{EachOnly, only_spine}

@@ -5,12 +5,12 @@ use Rattle.std.specs.List.{AllByRecursion}
 use Rattle.wh_types.specs.Ty.{Ty, ◌⇒◌, same_ty}
 use Rattle.wh_terms.specs.Tree.{Tm, bound, free, fun, meta, lam, app, head}
 use Rattle.wh_terms.specs.Typing.{Symbols, Declared}
-use Rattle.wh_inference.specs.Inferences.{Letter, same_trees, bodies, arguments, part, lower, first_less, spine_parts, body, variable, meta_part, Inference, infer, Inferences, no_parts, more_parts, entries, count_parts}
-use Rattle.wh_extended.specs.Kinds.{type_at, codomain, kind}
-use Rattle.wh_path_order.specs.Heads.{arguments_of, list_of}
-use Rattle.wh_path_order.specs.SameTrees.{same_list}
-use Rattle.wh_path_order.specs.Verdict.{Claim, at_least, greater, above, Task, each, pairwise, when, symbol_tasks, above_tasks, one_kind, greater_tasks, typed_tasks, at_least_tasks, tasks, or_later, verdict, verdicts}
-use Rattle.wh_path_order.proofs.AskedTasks.{AboveAsks, asks_part, asks_lower, asks_first_less, asks_spine, asks_body, asks_variable, asks_meta, above_asks, GreaterAsks, asks_bodies, asks_arguments, asks_above, typed_asks, AtLeastAsks, asks_same, asks_greater, at_least_asks}
+use Rattle.wh_order_inference.specs.Inferences.{Letter, same_trees, bodies, arguments, part, lower, first_less, spine_parts, body, variable, meta_part, Inference, infer, Inferences, no_parts, more_parts, entries, count_parts}
+use Rattle.wh_order_extended.specs.Kinds.{type_at, codomain, kind}
+use Rattle.wh_order_path.specs.Heads.{arguments_of, list_of}
+use Rattle.wh_order_path.specs.SameTrees.{same_list}
+use Rattle.wh_order_path.specs.Verdict.{Claim, at_least, greater, above, Task, each, pairwise, when, symbol_tasks, above_tasks, one_kind, greater_tasks, typed_tasks, at_least_tasks, tasks, or_later, verdict, verdicts}
+use Rattle.wh_order_path.proofs.AskedTasks.{AboveAsks, asks_part, asks_lower, asks_first_less, asks_spine, asks_body, asks_variable, asks_meta, above_asks, GreaterAsks, asks_bodies, asks_arguments, asks_above, typed_asks, AtLeastAsks, asks_same, asks_greater, at_least_asks}
 use Rattle.wh_order_local.specs.Only.{Only}
 use Rattle.wh_order_local.proofs.OnlyLemmas.{EachOnly, only_opened, only_head, only_arguments, only_listed, only_at}
 

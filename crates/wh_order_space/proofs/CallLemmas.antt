@@ -8,7 +8,7 @@ use Rattle.wh_terms.specs.Erase.{symbols, tm}
 use Rattle.wh_terms.specs.Typing.{Symbols}
 use Rattle.wh_terms.specs.declared.rule.Signature.{Signature}
 use Rattle.wh_terms.specs.declared.term.Term.{Term}
-use Rattle.wh_extended.specs.ExtendedSides.{marked_number}
+use Rattle.wh_order_extended.specs.ExtendedSides.{marked_number}
 
 mapped_length : {A B : Type 0} (f : A → B) (xs : List A) → length (map f xs) ≡ length xs
 mapped_length f [] = refl

@@ -7,19 +7,19 @@ use Rattle.wh_types.specs.Erase.{tys}
 use Rattle.wh_types.specs.declared.simple_type.SimpleType.{SimpleType}
 use Rattle.wh_pairs.specs.PairData.{IsIncreasing}
 use Rattle.wh_pairs.specs.Marked.{AreMarked}
-use Rattle.wh_reduction.specs.TaskData.{TaskData}
+use Rattle.wh_reduction_pairs.specs.TaskData.{TaskData}
 use Rattle.wh_polycheck.specs.Marks.{marked_types}
-use Rattle.wh_inference.specs.Filters.{Filter}
-use Rattle.wh_inference.specs.FilterText.{filter_of}
-use Rattle.wh_extended.specs.Filtered.{IsProper, precedences}
-use Rattle.wh_ordering.specs.Filterings.{FilteringData, MarkFilter, filter_among, mark_among, filters_of}
+use Rattle.wh_order_inference.specs.Filters.{Filter}
+use Rattle.wh_order_inference.specs.FilterText.{filter_of}
+use Rattle.wh_order_extended.specs.Filtered.{IsProper, precedences}
+use Rattle.wh_order_node.specs.Filterings.{FilteringData, MarkFilter, filter_among, mark_among, filters_of}
 use Rattle.wh_proof.proofs.InterpretationLemmas.{marked_one}
-use Rattle.wh_guesses.specs.Coefficients.{scopes_of}
-use Rattle.wh_demands.specs.declared.demand.Demand.{Demand}
-use Rattle.wh_demands.specs.declared.view.Spot.{Spot}
-use Rattle.wh_demands.specs.Demands.{holds}
-use Rattle.wh_demands.specs.Claims.{Says, SayFilters, order_bit}
-use Rattle.wh_demands.proofs.PartLemmas.{at_left, at_right, below_at}
+use Rattle.wh_poly_guesses.specs.Coefficients.{scopes_of}
+use Rattle.wh_order_demands.specs.declared.demand.Demand.{Demand}
+use Rattle.wh_order_demands.specs.declared.view.Spot.{Spot}
+use Rattle.wh_order_demands.specs.Demands.{holds}
+use Rattle.wh_order_demands.specs.Claims.{Says, SayFilters, order_bit}
+use Rattle.wh_order_demands.proofs.PartLemmas.{at_left, at_right, below_at}
 use Rattle.wh_order_space.specs.Bits.{first_bit, bits_of}
 use Rattle.wh_order_space.specs.Space.{IsOfSpace, HasNoOrder}
 use Rattle.wh_order_space.specs.Spotted.{types_in, IsNumberOf, AreSpotted}

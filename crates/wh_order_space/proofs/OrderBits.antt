@@ -3,13 +3,13 @@ use Rattle.std.proofs.Common.{◌≡◌, ℕ, zero, suc, ◌+◌, ◌-◌, ◌<�
 use Rattle.std.specs.Prelude.{◌==◌, nat_lt, not, if◌then◌else◌}
 use Rattle.std.proofs.lemmas.Bool.{lt-ltb, le-ltb, eq-eqb, ne_eqb}
 use Rattle.wh_types.specs.Ty.{Ty, sort}
-use Rattle.wh_inference.specs.Filters.{Filter, keep, pick}
-use Rattle.wh_extended.specs.Filtered.{IncreasingFrom, IsProper, precedence}
-use Rattle.wh_inference.specs.FilterText.{WrittenFilter, filter_of}
+use Rattle.wh_order_inference.specs.Filters.{Filter, keep, pick}
+use Rattle.wh_order_extended.specs.Filtered.{IncreasingFrom, IsProper, precedence}
+use Rattle.wh_order_inference.specs.FilterText.{WrittenFilter, filter_of}
 use Rattle.wh_pairs.specs.PairData.{IsIncreasing}
-use Rattle.wh_ordering.specs.Filterings.{MarkFilter, filter_among, mark_among}
-use Rattle.wh_demands.specs.Claims.{HasPlace, Says}
-use Rattle.wh_demands.proofs.PartLemmas.{below_at}
+use Rattle.wh_order_node.specs.Filterings.{MarkFilter, filter_among, mark_among}
+use Rattle.wh_order_demands.specs.Claims.{HasPlace, Says}
+use Rattle.wh_order_demands.proofs.PartLemmas.{below_at}
 use Rattle.wh_order_space.specs.Bits.{bits_of, first_bit}
 
 one_of : {A : Type 0} {a b : A} → Some a ≡ Some b → a ≡ b

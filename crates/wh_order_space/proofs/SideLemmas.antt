@@ -9,23 +9,23 @@ use Rattle.wh_terms.specs.declared.term.Term.{Term}
 use Rattle.wh_terms.specs.Typing.{Symbols}
 use Rattle.wh_pairs.specs.PairData.{PairData, pair_data}
 use Rattle.wh_pairs.specs.declared.pair.Pair.{Pair}
-use Rattle.wh_reduction.specs.TaskData.{TaskData}
-use Rattle.wh_extended.specs.ExtendedSides.{extended_side, extended_metas}
-use Rattle.wh_extended.specs.Filtered.{collapsed}
-use Rattle.wh_ordering.specs.Filterings.{FilteringData, filters_of, filtered_signature}
+use Rattle.wh_reduction_pairs.specs.TaskData.{TaskData}
+use Rattle.wh_order_extended.specs.ExtendedSides.{extended_side, extended_metas}
+use Rattle.wh_order_extended.specs.Filtered.{collapsed}
+use Rattle.wh_order_node.specs.Filterings.{FilteringData, filters_of, filtered_signature}
 use Rattle.wh_order.specs.TreeSides.{extended_pair_side}
 use Rattle.wh_order_lines.specs.Oriented.{OrientsRule, OrientsPair, OrientsStrictly}
-use Rattle.wh_demands.specs.declared.claim.Claim.{Claim}
-use Rattle.wh_demands.specs.declared.claim.Claim.TheVariants.{Greater, AtLeast}
-use Rattle.wh_demands.specs.declared.demand.Demand.{Demand}
-use Rattle.wh_demands.specs.declared.demand.Demand.TheVariants.{Always, Never}
-use Rattle.wh_demands.specs.declared.view.Spot.{Spot}
-use Rattle.wh_demands.specs.Demands.{holds}
-use Rattle.wh_demands.specs.Claims.{Holds, IsPossible}
-use Rattle.wh_demands.specs.OrderDemands.{IsOrderDemand}
-use Rattle.wh_demands.proofs.ClaimLemmas.{at_least_holds, greater_holds}
+use Rattle.wh_order_demands.specs.declared.claim.Claim.{Claim}
+use Rattle.wh_order_demands.specs.declared.claim.Claim.TheVariants.{Greater, AtLeast}
+use Rattle.wh_order_demands.specs.declared.demand.Demand.{Demand}
+use Rattle.wh_order_demands.specs.declared.demand.Demand.TheVariants.{Always, Never}
+use Rattle.wh_order_demands.specs.declared.view.Spot.{Spot}
+use Rattle.wh_order_demands.specs.Demands.{holds}
+use Rattle.wh_order_demands.specs.Claims.{Holds, IsPossible}
+use Rattle.wh_order_demands.specs.OrderDemands.{IsOrderDemand}
+use Rattle.wh_order_demands.proofs.ClaimLemmas.{at_least_holds, greater_holds}
 use Rattle.wh_order_space.specs.Circuited.{IsDemandOfSet, IsDemandOfSome, IsClaimOfRule, IsClaimOfPair, IsSide}
-use Rattle.wh_demands.proofs.OrderLemmas.{both_true, or_left, or_right}
+use Rattle.wh_order_demands.proofs.OrderLemmas.{both_true, or_left, or_right}
 
 -- an oriented rule, and an oriented pair
 rule_holds : (S : Symbols) (rules : List RewriteRule) (D : FilteringData) (r : RewriteRule) → OrientsRule S rules D r

@@ -3,7 +3,7 @@ use Rattle.std.proofs.Common.{◌≡◌, ℕ, zero, suc, ◌+◌, ◌-◌, ◌<�
 use Rattle.std.specs.Global.{Vec}
 use Rattle.std.specs.Prelude.{SomeIff}
 use Rattle.wh_types.specs.declared.simple_type.SimpleType.{SimpleType}
-use Rattle.wh_demands.specs.declared.view.Spot.{Spot}
+use Rattle.wh_order_demands.specs.declared.view.Spot.{Spot}
 use Rattle.wh_order_space.specs.Spotted.{IsNumberOf, IsNumber, IsSpotAt, IsSpotted, AreSpotted}
 
 one_of : {A : Type 0} {a b : A} → Some a ≡ Some b → a ≡ b

@@ -3,10 +3,10 @@
 -- them the marked symbols of the set.
 use Rattle.std.specs.Prelude.{ℕ, zero, suc, ◌+◌, ◌-◌, ◌*◌, ◌/◌, ◌<◌, ◌≡◌, ◌==◌, Bool, if◌then◌else◌, List, [], ◌∷◌, ◌++◌, Option, None, Some, length, map, slice_get}
 use Rattle.wh_types.specs.Ty.{Ty}
-use Rattle.wh_reduction.specs.TaskData.{TaskData}
-use Rattle.wh_inference.specs.FilterText.{WrittenFilter, keeps, picks}
-use Rattle.wh_ordering.specs.Filterings.{FilteringData, IsProperAsWritten}
-use Rattle.wh_guesses.specs.Coefficients.{scopes_of}
+use Rattle.wh_reduction_pairs.specs.TaskData.{TaskData}
+use Rattle.wh_order_inference.specs.FilterText.{WrittenFilter, keeps, picks}
+use Rattle.wh_order_node.specs.Filterings.{FilteringData, IsProperAsWritten}
+use Rattle.wh_poly_guesses.specs.Coefficients.{scopes_of}
 use Rattle.wh_order_space.specs.Space.{symbol_count}
 
 -- how many bits a number has, where it is below 2^most

@@ -5,19 +5,19 @@ use Rattle.wh_types.specs.Ty.{Ty}
 use Rattle.wh_terms.specs.Tree.{Tm}
 use Rattle.wh_terms.specs.Erase.{tm}
 use Rattle.wh_terms.specs.declared.term.Term.{Term}
-use Rattle.wh_reduction.specs.TaskData.{TaskData}
+use Rattle.wh_reduction_pairs.specs.TaskData.{TaskData}
 use Rattle.wh_terms.specs.Rules.{RewriteRule}
 use Rattle.wh_pairs.specs.PairData.{PairData}
-use Rattle.wh_extended.specs.ExtendedSides.{extended_side}
+use Rattle.wh_order_extended.specs.ExtendedSides.{extended_side}
 use Rattle.wh_order.specs.TreeSides.{extended_pair_side}
-use Rattle.wh_inference.specs.Filters.{Filter}
-use Rattle.wh_ordering.specs.Filterings.{FilteringData, filters_of}
-use Rattle.wh_demands.specs.Demands.{holds}
-use Rattle.wh_demands.specs.Claims.{Holds, SayFilters}
-use Rattle.wh_demands.specs.declared.claim.Claim.{Claim}
-use Rattle.wh_demands.specs.declared.claim.Claim.TheVariants.{AtLeast}
-use Rattle.wh_demands.specs.declared.demand.Demand.{Demand}
-use Rattle.wh_demands.specs.declared.view.Spot.{Spot}
+use Rattle.wh_order_inference.specs.Filters.{Filter}
+use Rattle.wh_order_node.specs.Filterings.{FilteringData, filters_of}
+use Rattle.wh_order_demands.specs.Demands.{holds}
+use Rattle.wh_order_demands.specs.Claims.{Holds, SayFilters}
+use Rattle.wh_order_demands.specs.declared.claim.Claim.{Claim}
+use Rattle.wh_order_demands.specs.declared.claim.Claim.TheVariants.{AtLeast}
+use Rattle.wh_order_demands.specs.declared.demand.Demand.{Demand}
+use Rattle.wh_order_demands.specs.declared.view.Spot.{Spot}
 use Rattle.wh_order_space.specs.Bits.{first_bit}
 use Rattle.wh_order_space.specs.Space.{LetsGo, HasNoOrder}
 use Rattle.wh_order_space.specs.declared.orders.Circuited.{Circuited}

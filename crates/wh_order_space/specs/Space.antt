@@ -3,12 +3,12 @@
 use Rattle.std.specs.Prelude.{ℕ, ◌+◌, ◌≡◌, ◌<◌, List, Some, All, Contains, length, slice_get}
 use Rattle.wh_terms.specs.Rules.{RewriteRule}
 use Rattle.wh_pairs.specs.PairData.{PairData}
-use Rattle.wh_reduction.specs.TaskData.{TaskData}
-use Rattle.wh_inference.specs.FilterText.{WrittenFilter, keeps, picks}
-use Rattle.wh_ordering.specs.Filterings.{FilteringData, AreFiltersFor, AreProperSymbols, AreProperMarks}
-use Rattle.wh_ordering.specs.Ordering.{AreNarrow}
+use Rattle.wh_reduction_pairs.specs.TaskData.{TaskData}
+use Rattle.wh_order_inference.specs.FilterText.{WrittenFilter, keeps, picks}
+use Rattle.wh_order_node.specs.Filterings.{FilteringData, AreFiltersFor, AreProperSymbols, AreProperMarks}
+use Rattle.wh_order_node.specs.Ordering.{AreNarrow}
 use Rattle.wh_order_lines.specs.Oriented.{OrientsRule, OrientsPair, OrientsStrictly, MeetsRule, MeetsPair, MeetsStrictly}
-use Rattle.wh_guesses.specs.Conditions.{Condition, covers_rule, covers_pair, some_strictly}
+use Rattle.wh_poly_guesses.specs.Conditions.{Condition, covers_rule, covers_pair, some_strictly}
 
 -- how many symbols there are, the marked symbols of the set among them
 abbrev pub symbol_count : TaskData → List ℕ → ℕ

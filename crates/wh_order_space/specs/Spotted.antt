@@ -4,7 +4,7 @@ use Rattle.std.specs.Global.{Vec}
 use Rattle.wh_types.specs.Erase.{tys}
 use Rattle.wh_types.specs.Ty.{Ty}
 use Rattle.wh_types.specs.declared.simple_type.SimpleType.{SimpleType}
-use Rattle.wh_demands.specs.declared.view.Spot.{Spot}
+use Rattle.wh_order_demands.specs.declared.view.Spot.{Spot}
 
 -- the types of the arguments that lists of them in the program stand for
 abbrev pub types_in : List (Vec SimpleType) → List (List Ty)

@@ -1,7 +1,7 @@
 //! The bits of an order by values of a circuit.
 
 use std::alloc::{AllocError, Global};
-use wh_demands::Spot;
+use wh_order_demands::Spot;
 use wh_types::{counted, sum};
 
 // Precedences are raised so often at most.

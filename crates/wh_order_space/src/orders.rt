@@ -2,8 +2,8 @@
 
 ghost use Rattle.std.specs.Prelude.{◌≡◌, IfOk};
 ghost use Rattle.wh_pairs.specs.Marked.{AreMarked};
-ghost use Rattle.wh_reduction.specs.TaskView.{task_data};
-ghost use Rattle.wh_guesses.specs.Coefficients.{scopes_of};
+ghost use Rattle.wh_reduction_pairs.specs.TaskView.{task_data};
+ghost use Rattle.wh_poly_guesses.specs.Coefficients.{scopes_of};
 ghost use Rattle.wh_order_space.specs.Circuited.{IsCircuited};
 ghost use Rattle.wh_order_space.specs.Spotted.{types_in};
 
@@ -12,8 +12,8 @@ use crate::guess::guess_by;
 use crate::sides::demand_of_set;
 use crate::spots::spots_of;
 use std::alloc::{AllocError, Global};
-use wh_meeting::{Meeting, meet};
-use wh_reduction::Task;
+use wh_order_meeting::{Meeting, meet};
+use wh_reduction_pairs::Task;
 use wh_types::{SimpleType, counted, sum};
 
 /// What a circuit tells of the orders for a set.

@@ -7,20 +7,20 @@ ghost use Rattle.wh_terms.specs.Tree.{Tm, fun, spine};
 ghost use Rattle.wh_system.specs.CanonicalView.{side_of};
 ghost use Rattle.wh_system.specs.SystemView.{system_data};
 ghost use Rattle.wh_pairs.specs.PairData.{pair_data};
-ghost use Rattle.wh_reduction.specs.TaskView.{task_data};
+ghost use Rattle.wh_reduction_pairs.specs.TaskView.{task_data};
 ghost use Rattle.wh_polycheck.specs.Marks.{head_of_side};
-ghost use Rattle.wh_extended.specs.ExtendedSides.{extended_side, marked_number};
+ghost use Rattle.wh_order_extended.specs.ExtendedSides.{extended_side, marked_number};
 ghost use Rattle.wh_order.specs.TreeSides.{extended_pair_side};
-ghost use Rattle.wh_demands.specs.Claims.{IsPossible};
+ghost use Rattle.wh_order_demands.specs.Claims.{IsPossible};
 ghost use Rattle.wh_order_space.specs.Circuited.{IsClaimOfPair, IsClaimOfRule, IsDemandOfSet, IsSide};
 
 use std::alloc::{AllocError, Global};
-use wh_demands::{
+use wh_order_demands::{
     Claim, Demand, Spot, both, demand_of, demand_of_filters, demand_of_orders, either,
 };
 use wh_pairs::{Pair, call};
-use wh_reduction::Task;
-use wh_sides::{extended_arguments, extended_rule};
+use wh_reduction_pairs::Task;
+use wh_order_sides::{extended_arguments, extended_rule};
 use wh_system::System;
 use wh_terms::{Term, Terms};
 use wh_types::{Or, counted, sum};

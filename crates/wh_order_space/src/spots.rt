@@ -4,7 +4,7 @@ ghost use Rattle.std.specs.Prelude.{◌≡◌, ◌+◌, ℕ, IfOk, OnOk, Some, l
 ghost use Rattle.wh_order_space.specs.Spotted.{AreSpotted, IsNumber, IsSpotted};
 
 use std::alloc::{AllocError, Global};
-use wh_demands::Spot;
+use wh_order_demands::Spot;
 use wh_types::{SimpleType, counted};
 
 /// Where the bits of each symbol stand, and behind those of all symbols the same of marked symbols, each at the number

@@ -8,7 +8,7 @@ use Rattle.wh_pairs.specs.PairData.{PairData}
 use Rattle.wh_pairs.specs.Marked.{HeadsASide, AreMarked}
 use Rattle.wh_pairs.specs.Sets.{InSet}
 use Rattle.wh_pairs.proofs.ByPlace.{contains_at, place_of, unmap}
-use Rattle.wh_reduction.specs.TaskData.{TaskData}
+use Rattle.wh_reduction_pairs.specs.TaskData.{TaskData}
 use Rattle.wh_hopoly.specs.Evaluation.{Interpretation}
 use Rattle.wh_polycheck.specs.Sides.{IsInterpretedAs, Interprets}
 use Rattle.wh_polycheck.specs.Marks.{Mark, HasMark, HasMarkedSides}

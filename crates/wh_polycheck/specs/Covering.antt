@@ -4,8 +4,8 @@ use Rattle.std.specs.Prelude.{List, Bool, true, false, Contains}
 use Rattle.wh_terms.specs.Typing.{Symbols}
 use Rattle.wh_terms.specs.Rules.{RewriteRule}
 use Rattle.wh_pairs.specs.PairData.{PairData}
-use Rattle.wh_reduction.specs.TaskData.{TaskData, IsTask}
-use Rattle.wh_reduction.specs.ReductionPair.{Evidence, Showing, IsReductionPair}
+use Rattle.wh_reduction_pairs.specs.TaskData.{TaskData, IsTask}
+use Rattle.wh_reduction_pairs.specs.ReductionPair.{Evidence, Showing, IsReductionPair}
 use Rattle.wh_poly.specs.Polynomials.{Polynomial}
 use Rattle.wh_hopoly.specs.Evaluation.{Run, evaluate}
 use Rattle.wh_hopoly.specs.Moves.{Transfer, IsCover, IsStrictCover}

@@ -6,14 +6,14 @@ use Rattle.wh_system.specs.WellMade.{AreDistinct}
 use Rattle.wh_pairs.specs.PairData.{PairData}
 use Rattle.wh_pairs.specs.Marked.{AreMarked}
 use Rattle.wh_pairs.proofs.ListLemmas.{map-map}
-use Rattle.wh_inference.specs.FilterText.{WrittenFilter}
-use Rattle.wh_inference.specs.Said.{written_filter}
+use Rattle.wh_order_inference.specs.FilterText.{WrittenFilter}
+use Rattle.wh_order_inference.specs.Said.{written_filter}
 use Rattle.wh_cert.specs.Written as w
 use Rattle.wh_cert.specs.Said.{said_filter}
 use Rattle.wh_cert.specs.declared.order_node.NamedFilter.{NamedFilter}
-use Rattle.wh_ordering.specs.Filterings.{MarkFilter}
-use Rattle.wh_ordering.specs.FilteringView.{mark_filter}
-use Rattle.wh_ordering.specs.declared.filters.MarkFilter as code
+use Rattle.wh_order_node.specs.Filterings.{MarkFilter}
+use Rattle.wh_order_node.specs.FilteringView.{mark_filter}
+use Rattle.wh_order_node.specs.declared.filters.MarkFilter as code
 use Rattle.wh_proof.specs.Looked.{SayFilters, SaysMarkFilter, SayMarkFilters}
 use Rattle.wh_proof.proofs.ChoiceLemmas.{one_symbol}
 use Rattle.wh_proof.proofs.InterpretationLemmas.{marked_one}

@@ -6,7 +6,7 @@ use Rattle.wh_cert.specs.Written as w
 use Rattle.wh_proof.specs.Nodes.{Node, done, alone, blocks, subterm, poly, order}
 use Rattle.wh_cert.specs.Interps.{Interp}
 use Rattle.wh_polycheck.specs.Readings.{ReadingsData}
-use Rattle.wh_ordering.specs.Filterings.{FilteringData}
+use Rattle.wh_order_node.specs.Filterings.{FilteringData}
 use Rattle.wh_proof.specs.Looked.{SayReadings, SayFilterings, SaysNode}
 use Rattle.wh_proof.proofs.ChoiceLemmas.{one_list_said}
 use Rattle.wh_proof.proofs.InterpretationLemmas.{one_interpretations_said, one_marks_said}

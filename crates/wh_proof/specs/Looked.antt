@@ -4,16 +4,16 @@ use Rattle.wh_types.specs.Ty.{Ty}
 use Rattle.wh_system.specs.Systems.{SystemData}
 use Rattle.wh_cert.specs.Written as w
 use Rattle.wh_cert.specs.Interps.{Interp}
-use Rattle.wh_inference.specs.Inferences.{Inference}
-use Rattle.wh_inference.specs.FilterText.{WrittenFilter}
-use Rattle.wh_ordering.specs.Filterings.{MarkFilter, FilteringData}
+use Rattle.wh_order_inference.specs.Inferences.{Inference}
+use Rattle.wh_order_inference.specs.FilterText.{WrittenFilter}
+use Rattle.wh_order_node.specs.Filterings.{MarkFilter, FilteringData}
 use Rattle.wh_hopoly.specs.Evaluation.{Interpretation}
 use Rattle.wh_hopoly.specs.Erase.{transfers}
 use Rattle.wh_hopoly.specs.Moves.{Transfer}
 use Rattle.wh_hopoly.specs.declared.expression.Move.{Move}
 use Rattle.wh_pairs.specs.PairData.{PairData}
-use Rattle.wh_reduction.specs.TaskData.{TaskData, numbers_from, task_over}
-use Rattle.wh_reduction.specs.ReductionPair.{Evidence}
+use Rattle.wh_reduction_pairs.specs.TaskData.{TaskData, numbers_from, task_over}
+use Rattle.wh_reduction_pairs.specs.ReductionPair.{Evidence}
 use Rattle.wh_polycheck.specs.Marks.{Mark}
 use Rattle.wh_polycheck.specs.Readings.{ReadingsData}
 use Rattle.wh_subterm.specs.Projections.{Chosen}

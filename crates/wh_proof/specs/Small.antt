@@ -7,7 +7,7 @@ use Rattle.wh_pairs.specs.PairData.{PairData}
 use Rattle.wh_cert.specs.Written as w
 use Rattle.wh_cert.specs.Written.{Cert, yes, no}
 use Rattle.wh_proof.specs.Nodes.{Node, poly, Leaves}
-use Rattle.wh_reduction.specs.TaskData.{task_over}
+use Rattle.wh_reduction_pairs.specs.TaskData.{task_over}
 use Rattle.wh_polycheck.specs.Small.{Limits, with_limits, IsSmall}
 use Rattle.wh_proof.specs.Looked.{SayNodes}
 use Rattle.wh_pairs.specs.Sets.{IsWhole}

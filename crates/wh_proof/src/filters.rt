@@ -5,17 +5,17 @@ ghost use Rattle.std.specs.Prelude.{◌≡◌, ◌<◌, All, IfOk, List, MatchOp
 ghost use Rattle.wh_pairs.specs.Marked.{AreMarked};
 ghost use Rattle.wh_pairs.specs.Views.{pairs_data};
 ghost use Rattle.wh_system.specs.SystemView.{system_data};
-ghost use Rattle.wh_inference.specs.FilterText.{WrittenFilter};
-ghost use Rattle.wh_inference.specs.Said.{written_filter};
+ghost use Rattle.wh_order_inference.specs.FilterText.{WrittenFilter};
+ghost use Rattle.wh_order_inference.specs.Said.{written_filter};
 ghost use Rattle.wh_cert.specs.Said.{said_filter};
-ghost use Rattle.wh_ordering.specs.FilteringView.{filtering_data, mark_filter};
-ghost use Rattle.wh_ordering.specs.Filterings.{FilteringData, MarkFilter as filter_of_mark};
+ghost use Rattle.wh_order_node.specs.FilteringView.{filtering_data, mark_filter};
+ghost use Rattle.wh_order_node.specs.Filterings.{FilteringData, MarkFilter as filter_of_mark};
 ghost use Rattle.wh_proof.specs.Looked.{SayFilterings, SayFilters, SayMarkFilters};
 
 use crate::named::{name_all, name_these};
 use std::alloc::{AllocError, Global};
 use wh_cert::{Filter, NamedFilter, NamedFilters};
-use wh_ordering::{FilterList, Filters, MarkFilter, MarkFilterList};
+use wh_order_node::{FilterList, Filters, MarkFilter, MarkFilterList};
 use wh_pairs::{PairList, PairSet, marked_symbols};
 use wh_system::System;
 use wh_text::Name;

@@ -6,7 +6,7 @@ ghost use Rattle.wh_usable.specs.Closed.{AreRulesInOrder};
 ghost use Rattle.wh_proof.specs.Looked.{CoversRules, covered_rules};
 
 use std::alloc::{AllocError, Global};
-use wh_reduction::all_rules;
+use wh_reduction_pairs::all_rules;
 use wh_system::System;
 use wh_types::Numbers;
 use wh_usable::are_rules_in_order;

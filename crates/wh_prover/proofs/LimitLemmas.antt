@@ -19,7 +19,7 @@ use Rattle.wh_cert.specs.Limits.{ArgFits, NodeFits, NodeWithin}
 use Rattle.wh_proof.specs.Looked.{SayChoices}
 use Rattle.wh_pairs.proofs.SetLemmas.{all_from_members}
 use Rattle.wh_prover.proofs.CountLemmas.{Apart, apart_increasing, few_below, few_components}
-use Rattle.wh_guesses.proofs.LimitLemmas.{wide}
+use Rattle.wh_poly_guesses.proofs.LimitLemmas.{wide}
 
 -- blocks
 

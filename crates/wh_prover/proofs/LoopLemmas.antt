@@ -4,7 +4,7 @@ use Rattle.wh_system.specs.Systems.{SystemData}
 use Rattle.wh_pairs.specs.PairData.{PairData}
 use Rattle.wh_cert.specs.Written.{Cert, yes, no}
 use Rattle.wh_proof.specs.Valid.{IsValidCert, IsSmallCert}
-use Rattle.wh_loops.specs.Found.{IsLoopCertificate}
+use Rattle.wh_loop_starts.specs.Found.{IsLoopCertificate}
 use Rattle.wh_prover.specs.Answers.{IsNo}
 
 -- it is one of non-termination

@@ -12,17 +12,17 @@ use Rattle.wh_subterm.specs.Projections.{Chosen}
 use Rattle.wh_subterm.specs.SubtermRows.{IsProjection}
 use Rattle.wh_find_subterm.specs.Found.{DropsAllBelow}
 use Rattle.wh_cert.specs.Written as w
-use Rattle.wh_reduction.specs.ReductionPair.{Evidence}
+use Rattle.wh_reduction_pairs.specs.ReductionPair.{Evidence}
 use Rattle.wh_hopoly.specs.Moves.{Transfer}
 use Rattle.wh_usable.proofs.Whole.{all_in_order}
-use Rattle.wh_find_moves.specs.Found.{AreApart}
+use Rattle.wh_poly_moves.specs.Found.{AreApart}
 use Rattle.wh_usable.specs.Closed.{IsUsable}
-use Rattle.wh_guesses.specs.Found.{version_with}
+use Rattle.wh_poly_guesses.specs.Found.{version_with}
 use Rattle.wh_proof.specs.Looked.{covered_rules, poly_task}
-use Rattle.wh_inference.specs.Inferences.{Inference}
+use Rattle.wh_order_inference.specs.Inferences.{Inference}
 use Rattle.wh_order_lines.specs.Oriented.{IsWithin}
-use Rattle.wh_guesses.specs.Conditions.{HasNoInterpretation}
-use Rattle.wh_guesses.specs.Found.{task_of}
+use Rattle.wh_poly_guesses.specs.Conditions.{HasNoInterpretation}
+use Rattle.wh_poly_guesses.specs.Found.{task_of}
 use Rattle.wh_find_order.specs.Answers.{IsOrder}
 use Rattle.wh_prover.specs.Searched.{AreSearched, AreOrders}
 use Rattle.wh_interpreting.specs.Fewer.{HasFewer}

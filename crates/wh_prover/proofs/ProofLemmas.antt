@@ -8,16 +8,16 @@ use Rattle.wh_access.specs.Passing.{IsPassing}
 use Rattle.wh_pairs.specs.SystemPairs.{HasPairs}
 use Rattle.wh_cert.specs.Written as w
 use Rattle.wh_cert.specs.Limits.{IsCert, IsOfVersion, NodeFits, NodeWithin}
-use Rattle.wh_upgrade.specs.Upgraded.{upgraded_node}
-use Rattle.wh_upgrade.proofs.Texts.{all_upgraded, node_fits, node_within, node_of_two, preorder, map_length}
-use Rattle.wh_upgrade_laws.proofs.SameNodes.{all_new}
+use Rattle.wh_cert_upgrade.specs.Upgraded.{upgraded_node}
+use Rattle.wh_cert_upgrade.proofs.Texts.{all_upgraded, node_fits, node_within, node_of_two, preorder, map_length}
+use Rattle.wh_cert_upgrade_laws.proofs.SameNodes.{all_new}
 use Rattle.wh_pairs.specs.Sets.{IsWhole}
 use Rattle.wh_prover.specs.Answers.{IsProof, IsReason, IsFull, HasNoLoops, HasNoProof, HasRanks}
 use Rattle.wh_prover.specs.Searched.{IsSearched}
-use Rattle.wh_versions.specs.Certificates.{IsCertificateOf, first, second}
+use Rattle.wh_cert_versions.specs.Certificates.{IsCertificateOf, first, second}
 use Rattle.wh_prover.specs.Versions.{IsMade}
 use Rattle.wh_prover.specs.Walk.{weigh, IsTree, IsEnd}
-use Rattle.wh_reached.specs.Arrivals.{Arrival}
+use Rattle.wh_loop_reached.specs.Arrivals.{Arrival}
 use Rattle.wh_prover.specs.declared.answer.Options.{Options}
 use Rattle.wh_prover.specs.declared.answer.Cause.{Cause}
 use Rattle.wh_prover.specs.declared.answer.Cause.TheVariants.{NoRanks, Stuck, Spent, Full}

@@ -5,7 +5,7 @@ use Rattle.wh_system.specs.Systems.{SystemData}
 use Rattle.wh_cert.specs.Written as w
 use Rattle.wh_cert.specs.Limits.{IsOfVersion}
 use Rattle.wh_pairs.proofs.MemberLemmas.{at_head, behind}
-use Rattle.wh_upgrade.specs.Upgraded.{upgraded_node}
+use Rattle.wh_cert_upgrade.specs.Upgraded.{upgraded_node}
 use Rattle.wh_prover.specs.Searched.{IsSearched}
 use Rattle.wh_prover.specs.Versions.{NeedsSecond, IsMade}
 

@@ -9,14 +9,14 @@ use Rattle.wh_cert.specs.Said.{said}
 use Rattle.wh_cert.specs.Written.{Cert, yes, no}
 use Rattle.wh_sat_trail.specs.declared.literal.Literal.{Literal}
 use Rattle.wh_find_subterm.specs.Found.{IsSpent}
-use Rattle.wh_guesses.specs.Conditions.{HasNoInterpretation}
-use Rattle.wh_guesses.specs.Found.{task_of}
-use Rattle.wh_blocking.specs.Answers as tried
+use Rattle.wh_poly_guesses.specs.Conditions.{HasNoInterpretation}
+use Rattle.wh_poly_guesses.specs.Found.{task_of}
+use Rattle.wh_poly_blocking.specs.Answers as tried
 use Rattle.wh_order_space.specs.Space.{HasNoOrder}
 use Rattle.wh_find_order.specs.Answers as ordered
-use Rattle.wh_loops.specs.Space.{HasNoLoop}
-use Rattle.wh_loops.specs.Found.{IsLoopCertificate}
-use Rattle.wh_reached.specs.Arrivals.{Arrival, arrival}
+use Rattle.wh_loop_starts.specs.Space.{HasNoLoop}
+use Rattle.wh_loop_starts.specs.Found.{IsLoopCertificate}
+use Rattle.wh_loop_reached.specs.Arrivals.{Arrival, arrival}
 use Rattle.wh_find_loop.specs.Answers.{AreVisited, ReachesFewer}
 use Rattle.wh_proof.specs.Valid.{IsValidCert, IsSmallCert}
 use Rattle.wh_prover.specs.Searched.{IsSearched}

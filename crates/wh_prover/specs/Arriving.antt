@@ -9,16 +9,16 @@ use Rattle.wh_subterm.specs.Projections.{Chosen}
 use Rattle.wh_subterm.specs.SubtermRows.{IsProjection}
 use Rattle.wh_find_subterm.specs.Found.{DropsAllBelow}
 use Rattle.wh_pairs.specs.Sets.{IsSetOf, IsKept, IsWhole}
-use Rattle.wh_reduction.specs.TaskData.{task_over, whole_task}
-use Rattle.wh_reduction.specs.ReductionPair.{Evidence}
+use Rattle.wh_reduction_pairs.specs.TaskData.{task_over, whole_task}
+use Rattle.wh_reduction_pairs.specs.ReductionPair.{Evidence}
 use Rattle.wh_hopoly.specs.Moves.{Transfer}
 use Rattle.wh_polycheck.specs.Readings.{ReadingsData}
 use Rattle.wh_polycheck.specs.Covering.{IsCovering}
 use Rattle.wh_usable.specs.Closed.{IsUsable}
-use Rattle.wh_inference.specs.Inferences.{Inference}
-use Rattle.wh_ordering.specs.Filterings.{FilteringData}
-use Rattle.wh_ordering.specs.Ordering.{IsOrdering}
-use Rattle.wh_guesses.specs.Conditions.{HasNoInterpretation}
+use Rattle.wh_order_inference.specs.Inferences.{Inference}
+use Rattle.wh_order_node.specs.Filterings.{FilteringData}
+use Rattle.wh_order_node.specs.Ordering.{IsOrdering}
+use Rattle.wh_poly_guesses.specs.Conditions.{HasNoInterpretation}
 
 -- the set is one component: each pair of it leads to each other one within it
 abbrev pub IsOneComponent : List RewriteRule → List PairData → List ℕ → Type 0

@@ -8,11 +8,11 @@ use Rattle.wh_hopoly.specs.declared.expression.Move as moved
 use Rattle.wh_hopoly.specs.Erase.{transfers}
 use Rattle.wh_polycheck.specs.Marks.{marked_types}
 use Rattle.wh_polycheck.specs.Readings.{ReadingsData}
-use Rattle.wh_inference.specs.Inferences.{Inference}
-use Rattle.wh_ordering.specs.Filterings.{FilteringData, AreProperSymbols, AreProperMarks}
+use Rattle.wh_order_inference.specs.Inferences.{Inference}
+use Rattle.wh_order_node.specs.Filterings.{FilteringData, AreProperSymbols, AreProperMarks}
 use Rattle.wh_proof.specs.Looked.{SayReadings, SayFilterings}
-use Rattle.wh_find_moves.specs.Found.{AreApart}
-use Rattle.wh_space.specs.Space.{IsOfSpace}
+use Rattle.wh_poly_moves.specs.Found.{AreApart}
+use Rattle.wh_poly_space.specs.Space.{IsOfSpace}
 use Rattle.wh_order_lines.specs.Oriented.{IsWithin}
 use Rattle.wh_order_space.specs.Space.{IsLow}
 

@@ -12,9 +12,9 @@ use Rattle.wh_cert.specs.Limits.{ArgFits, NodeFits, NodeWithin}
 use Rattle.wh_cert.specs.Said.{said_node}
 use Rattle.wh_cert.specs.declared.certificate.Node.{Node}
 use Rattle.wh_find_subterm.specs.Found.{IsSpent}
-use Rattle.wh_guesses.specs.Conditions.{HasNoInterpretation}
-use Rattle.wh_guesses.specs.Found.{task_of}
-use Rattle.wh_blocking.specs.Answers as tried
+use Rattle.wh_poly_guesses.specs.Conditions.{HasNoInterpretation}
+use Rattle.wh_poly_guesses.specs.Found.{task_of}
+use Rattle.wh_poly_blocking.specs.Answers as tried
 use Rattle.wh_order_space.specs.Space.{HasNoOrder}
 use Rattle.wh_find_order.specs.Answers as ordered
 use Rattle.wh_subterm.specs.Projections.{Chosen}

@@ -21,7 +21,7 @@ use wh_graph::Graph;
 use wh_pairs::{PairList, numbers_below};
 use wh_system::System;
 use wh_types::{Or, Ranks};
-use wh_versions::certificate_of;
+use wh_cert_versions::certificate_of;
 
 // How many terms a first, short search for loops keeps at most. It comes before the search for a proof, which may take
 // long where there is a loop.

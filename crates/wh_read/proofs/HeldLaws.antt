@@ -7,10 +7,10 @@ use Rattle.wh_text.specs.Erase.{rty, rtys, rtm, rtms}
 use Rattle.wh_text.specs.declared.raw.RawType.{RawType, out-RawType}
 use Rattle.wh_text.specs.declared.raw.RawTerm.{RawTerm, Spine}
 use Rattle.wh_text.proofs.RawLemmas.{rty_parts, rtm_of_spine}
-use Rattle.wh_parts.specs.Parts.{RParts}
-use Rattle.wh_parts.specs.Erase.{rname, rmeta}
-use Rattle.wh_parts.specs.declared.parts.RawName.{RawName}
-use Rattle.wh_parts.specs.declared.parts.RawMeta.{RawMeta}
+use Rattle.wh_system_parts.specs.Parts.{RParts}
+use Rattle.wh_system_parts.specs.Erase.{rname, rmeta}
+use Rattle.wh_system_parts.specs.declared.parts.RawName.{RawName}
+use Rattle.wh_system_parts.specs.declared.parts.RawMeta.{RawMeta}
 use Rattle.wh_read.specs.declared.lexeme.Lexeme.{Lexeme}
 use Rattle.wh_read.specs.declared.lexeme.Lexeme.TheVariants.{CloseParen, OpenBracket}
 use Rattle.wh_read.specs.declared.place.Step.{Step}

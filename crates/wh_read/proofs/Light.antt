@@ -1,7 +1,7 @@
 -- The reader holds what the machine over written trees holds, with what is said in place of what is written.
 use Rattle.std.proofs.Common.{◌≡◌, ℕ, ◌+◌, Bool, true, false, List, [], ◌∷◌, ◌++◌, map, length, Option, None, Some, refl, ap, ◌∙◌, nat_lt, if◌then◌else◌, suc, arith}
 use Rattle.wh_text.specs.RawTree.{RTy, raw_type, RTys, no_types as no_rtys, more_types as more_rtys, RTm, named, numbered, free_variable, meta, lam, spine, RTms, none, more}
-use Rattle.wh_parts.specs.Parts.{RMeta, RParts}
+use Rattle.wh_system_parts.specs.Parts.{RMeta, RParts}
 use Rattle.wh_read.specs.Written.{WType, only, arrow, WAtype, sort_name, type_in, WTerm, lambda, atoms, WAtom, plain_name, number, typed_variable, term_in, WAtoms, no_atoms, more_atoms, WTerms, no_terms, more_terms, WTypes, no_types, more_types, WBrackets, no_brackets, WMeta, WMetas, no_metas, more_metas, WSort, WFun, WRule, WSystem}
 use Rattle.wh_read.specs.Spelled.{Placed}
 use Rattle.wh_read.specs.Raw.{with_argument, said_type, said_atype, join, spined, said_term, said_atom, said_atoms, said_terms, said_types, said_brackets, said_meta, said_metas, said_declared, said_sort, said_fun, said_rule, said}

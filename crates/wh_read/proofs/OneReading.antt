@@ -3,7 +3,7 @@ use Rattle.std.proofs.Common.{◌≡◌, ℕ, ◌+◌, ◌-◌, ◌<◌, ◌≤�
 use Rattle.std.proofs.Math.Seq.{take-add}
 use Rattle.std.proofs.lemmas.List.{take-append-drop}
 use Rattle.std.proofs.lemmas.Bool.{cases_lt, cases_order}
-use Rattle.wh_parts.specs.Parts.{RParts}
+use Rattle.wh_system_parts.specs.Parts.{RParts}
 use Rattle.wh_read.specs.Written.{WSystem}
 use Rattle.wh_read.specs.Spelled.{Placed, spelled}
 use Rattle.wh_read.specs.Nesting.{SystemFits}

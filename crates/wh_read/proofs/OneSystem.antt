@@ -6,12 +6,12 @@ use Rattle.wh_text.specs.Pieces.{HasFault}
 use Rattle.wh_text.specs.declared.token.TextFault.{TextFault}
 use Rattle.wh_text.specs.declared.token.TextFault.TheVariants.{BadByte, BadNumber, NameTooLong}
 use Rattle.wh_text.proofs.OneCut.{one_cut}
-use Rattle.wh_parts.specs.Parts.{RParts}
-use Rattle.wh_parts.specs.RuleTests.{refusal}
-use Rattle.wh_parts.specs.declared.fault.SystemFault.{SystemFault}
+use Rattle.wh_system_parts.specs.Parts.{RParts}
+use Rattle.wh_system_parts.specs.RuleTests.{refusal}
+use Rattle.wh_system_parts.specs.declared.fault.SystemFault.{SystemFault}
 use Rattle.wh_system.specs.Systems.{SystemData}
-use Rattle.wh_making.specs.Says.{Says}
-use Rattle.wh_making.proofs.SystemMade.{one_system}
+use Rattle.wh_system_making.specs.Says.{Says}
+use Rattle.wh_system_making.proofs.SystemMade.{one_system}
 use Rattle.wh_read.specs.Spelled.{Placed, placed}
 use Rattle.wh_read.specs.Parsing.{Parses}
 use Rattle.wh_read.specs.SyntaxFaults.{place_in, HasSyntaxFault}

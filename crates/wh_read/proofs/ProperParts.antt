@@ -5,12 +5,12 @@ use Rattle.std.proofs.lemmas.List.Elements.{All-nil, All-cons}
 use Rattle.wh_text.specs.RawTree.{RTy, raw_type, no_types as no_rtys, more_types as more_rtys, Binder, named_binder, numbered_binder, RTm, named, numbered, free_variable, meta, lam, spine, RTms, none, more}
 use Rattle.wh_text.specs.Words.{IsName}
 use Rattle.wh_text.specs.Tokens.{Token, whole, Cuts}
-use Rattle.wh_parts.specs.Parts.{RName, RFun, RMeta, RRule, RParts}
+use Rattle.wh_system_parts.specs.Parts.{RName, RFun, RMeta, RRule, RParts}
 use Rattle.wh_system.specs.Systems.{SystemData}
 use Rattle.wh_system.specs.Nesting.{raw_part_nesting, raw_nesting, RawTypesNestEach, RawTypesNestWithin, AllRawTypesNestWithin}
-use Rattle.wh_making.specs.Proper.{AreProper}
+use Rattle.wh_system_making.specs.Proper.{AreProper}
 use Rattle.wh_system.specs.WellMade.{IsWellMadeSystem}
-use Rattle.wh_making.proofs.SystemMade.{system_made}
+use Rattle.wh_system_making.proofs.SystemMade.{system_made}
 use Rattle.wh_read.specs.Written.{WType, only, arrow, WAtype, sort_name, type_in, WTerm, lambda, atoms, WAtom, plain_name, number, typed_variable, applied, term_in, WAtoms, no_atoms, more_atoms, WTerms, no_terms, more_terms, WTypes, no_types, more_types, WBrackets, no_brackets, brackets, WMeta, WMetas, no_metas, more_metas, WDeclared, nothing, declares, WSort, WFun, WRule, WSystem}
 use Rattle.wh_read.specs.Spelled.{Placed, placed, mark, put_type, put_atype, put_binder, put_term, put_atom, put_atoms, put_terms, put_types, put_brackets, put_meta, put_metas, put_declared, put_sort, put_fun, put_rule, put_all, spelled}
 use Rattle.wh_read.specs.Raw.{with_argument, said_type, said_atype, join, spined, said_term, said_atom, said_atoms, said_terms, said_types, said_brackets, said_meta, said_metas, said_declared, said_sort, said_fun, said_rule, said}

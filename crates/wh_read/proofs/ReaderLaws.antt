@@ -1,6 +1,6 @@
 -- What a run of the reader over tokens tells: the parts that they say, or the first token at fault.
 use Rattle.std.proofs.Common.{◌≡◌, ℕ, ◌+◌, ◌<◌, true, List, [], length, take, refl, sym, ap, subst, ◌∙◌}
-use Rattle.wh_parts.specs.Parts.{RParts}
+use Rattle.wh_system_parts.specs.Parts.{RParts}
 use Rattle.wh_read.specs.Spelled.{Placed}
 use Rattle.wh_read.specs.Parsing.{Parses, SyntaxAt, TooDeepAt}
 use Rattle.wh_read.specs.Reader as l

@@ -7,7 +7,7 @@ use Rattle.std.proofs.lemmas.List.{take_more, take_all, get_or-map, get_or_past,
 use Rattle.wh_text.specs.Erase.{tokens}
 use Rattle.wh_text.specs.Erase.{token as cut_token}
 use Rattle.wh_text.specs.declared.token.Token as code
-use Rattle.wh_parts.specs.Parts.{RParts}
+use Rattle.wh_system_parts.specs.Parts.{RParts}
 use Rattle.wh_read.specs.Spelled.{Placed, placed}
 use Rattle.wh_read.specs.Parsing.{Parses}
 use Rattle.wh_read.specs.SyntaxFaults.{letters, place_in, HasSyntaxFault}

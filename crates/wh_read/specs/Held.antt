@@ -4,8 +4,8 @@ use Rattle.std.specs.Global.{Global}
 use Rattle.wh_text.specs.RawTree.{RTys, RTm}
 use Rattle.wh_text.specs.Erase.{rty, rtys, rtm, rtms, rbinder}
 use Rattle.wh_text.specs.declared.raw.RawType.{RawType}
-use Rattle.wh_parts.specs.Parts.{RParts}
-use Rattle.wh_parts.specs.Erase.{rname, rmeta}
+use Rattle.wh_system_parts.specs.Parts.{RParts}
+use Rattle.wh_system_parts.specs.Erase.{rname, rmeta}
 use Rattle.wh_read.specs.Lexemes as s
 use Rattle.wh_read.specs.Reader as r
 use Rattle.wh_read.specs.declared.lexeme.Lexeme.{Lexeme}

@@ -1,6 +1,6 @@
 -- What tokens say, and the first token at which they can't be a system text or nest too deep.
 use Rattle.std.specs.Prelude.{ℕ, ◌≡◌, ◌+◌, ◌<◌, ◌≤◌, List, ◌++◌, length, take}
-use Rattle.wh_parts.specs.Parts.{RParts}
+use Rattle.wh_system_parts.specs.Parts.{RParts}
 use Rattle.wh_read.specs.Written.{WSystem}
 use Rattle.wh_read.specs.Spelled.{Placed, spelled}
 use Rattle.wh_read.specs.Nesting.{SystemFits}

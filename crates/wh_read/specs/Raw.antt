@@ -1,7 +1,7 @@
 -- What the written parts say: raw trees and parts.
 use Rattle.std.specs.Prelude.{ℕ, List, [], ◌∷◌, map}
 use Rattle.wh_text.specs.RawTree.{RTy, raw_type, RTys, no_types as no_rtys, more_types as more_rtys, RTm, named, numbered, free_variable, meta, lam, spine, RTms, none, more}
-use Rattle.wh_parts.specs.Parts.{RName, RFun, RMeta, RRule, RParts}
+use Rattle.wh_system_parts.specs.Parts.{RName, RFun, RMeta, RRule, RParts}
 use Rattle.wh_read.specs.Written.{WType, only, arrow, WAtype, sort_name, type_in, WTerm, lambda, atoms, WAtom, plain_name, number, typed_variable, applied, term_in, WAtoms, no_atoms, more_atoms, WTerms, no_terms, more_terms, WTypes, no_types, more_types, WBrackets, no_brackets, brackets, WMeta, WMetas, no_metas, more_metas, WDeclared, nothing, declares, WSort, WFun, WRule, WSystem}
 
 -- an arrow to a parenthesised type is the same type as without the parentheses

@@ -3,7 +3,7 @@
 use Rattle.std.specs.Prelude.{ℕ, ◌+◌, nat_lt, length, List, [], ◌∷◌, ◌++◌, Option, None, Some, if◌then◌else◌}
 use Rattle.wh_types.specs.Limits.{deepest_term, deepest_type}
 use Rattle.wh_text.specs.RawTree.{RTy, raw_type, RTys, no_types, more_types, Binder, named_binder, numbered_binder, RTm, named, numbered, free_variable, meta, lam, spine, RTms, none, more}
-use Rattle.wh_parts.specs.Parts.{RName, RFun, RMeta, RRule, RParts}
+use Rattle.wh_system_parts.specs.Parts.{RName, RFun, RMeta, RRule, RParts}
 use Rattle.wh_read.specs.Raw.{join, place_of}
 use Rattle.wh_read.specs.Spelled.{Placed}
 use Rattle.wh_read.specs.Lexemes.{Lexeme, a_name, a_dollar, a_percent, key_sort, key_fun, key_rule, backslash, colon, dot, semicolon, comma, open_paren, close_paren, open_bracket, close_bracket, open_brace, close_brace, thin_arrow, thick_arrow, lexeme}

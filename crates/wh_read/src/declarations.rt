@@ -1,8 +1,8 @@
 //! Reading a declaration up to its types and sides.
 
 ghost use Rattle.std.specs.Prelude.{◌≡◌, IfOk};
-ghost use Rattle.wh_parts.specs.Parts.{RParts};
-ghost use Rattle.wh_parts.specs.Erase.{rparts, rname};
+ghost use Rattle.wh_system_parts.specs.Parts.{RParts};
+ghost use Rattle.wh_system_parts.specs.Erase.{rparts, rname};
 ghost use Rattle.wh_read.specs.Held as held;
 ghost use Rattle.wh_read.specs.Reader as r;
 
@@ -10,7 +10,7 @@ use crate::lexeme::Lexeme;
 use crate::place::{OpenMeta, OpenMetas, OpenRule, Place, Purpose, Step};
 use crate::types::{at_atype, new_type, want_type};
 use std::alloc::{AllocError, Global};
-use wh_parts::{Parts, RawMetas, RawName};
+use wh_system_parts::{Parts, RawMetas, RawName};
 use wh_text::RawTypes;
 
 /// A declaration begins.

@@ -7,7 +7,7 @@ ghost use Rattle.wh_text.specs.Erase.{kind_of, part, token as cut_token};
 ghost use Rattle.wh_text.specs.Pieces.{IsCutInto};
 ghost use Rattle.wh_text.specs.Words.{IsWord};
 ghost use Rattle.wh_text.specs.declared.token.TokenKind.TheVariants as token_kind;
-ghost use Rattle.wh_parts.specs.Erase.{rparts};
+ghost use Rattle.wh_system_parts.specs.Erase.{rparts};
 ghost use Rattle.wh_read.specs.Lexemes.{lexeme};
 ghost use Rattle.wh_read.specs.Spelled.{placed};
 ghost use Rattle.wh_read.specs.Parsing.{Parses};
@@ -24,7 +24,7 @@ use crate::place::{Place, Step};
 use crate::terms::{at_atom, at_binder, behind_name, binder_colon, binder_dot, variable_colon};
 use crate::types::{at_atype, behind_type};
 use std::alloc::{AllocError, Global};
-use wh_parts::{Parts, RawFuns, RawNames, RawRules};
+use wh_system_parts::{Parts, RawFuns, RawNames, RawRules};
 use wh_text::Token;
 use wh_types::Or;
 

@@ -1,6 +1,6 @@
 //! The places of the reader: what it holds behind some tokens of a system text.
 
-use wh_parts::{RawMetas, RawName};
+use wh_system_parts::{RawMetas, RawName};
 use wh_text::{RawBinder, RawTerm, RawTerms, RawType, RawTypes};
 
 /// What an open term stands in.

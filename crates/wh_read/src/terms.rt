@@ -2,8 +2,8 @@
 
 ghost use Rattle.std.specs.Prelude.{◌≡◌, None, Some, option_map, IfOk};
 ghost use Rattle.wh_text.specs.Erase.{rty, rtm, rtms, rbinder};
-ghost use Rattle.wh_parts.specs.Parts.{RParts};
-ghost use Rattle.wh_parts.specs.Erase.{rparts};
+ghost use Rattle.wh_system_parts.specs.Parts.{RParts};
+ghost use Rattle.wh_system_parts.specs.Erase.{rparts};
 ghost use Rattle.wh_text.specs.RawTree.{spine, more, none};
 ghost use Rattle.wh_read.specs.declared.place.Place.TheVariants.{WantAtom};
 ghost use Rattle.wh_read.specs.Lexemes.{semicolon};
@@ -15,7 +15,7 @@ use crate::place::{Frame, OpenRule, Place, Purpose, Step};
 use crate::types::want_type;
 use std::alloc::{AllocError, Global};
 use wh_nesting::opens_in_system;
-use wh_parts::{Parts, RawName, RawRule};
+use wh_system_parts::{Parts, RawName, RawRule};
 use wh_text::{RawBinder, RawTerm, RawTerms, RawType};
 
 /// The spine with one more argument.

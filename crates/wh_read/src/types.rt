@@ -3,8 +3,8 @@
 
 ghost use Rattle.std.specs.Prelude.{◌≡◌, [], IfOk};
 ghost use Rattle.wh_text.specs.Erase.{rty, rtys};
-ghost use Rattle.wh_parts.specs.Parts.{RParts};
-ghost use Rattle.wh_parts.specs.Erase.{rparts, rname};
+ghost use Rattle.wh_system_parts.specs.Parts.{RParts};
+ghost use Rattle.wh_system_parts.specs.Erase.{rparts, rname};
 ghost use Rattle.wh_read.specs.Lexemes.{a_name, open_paren};
 ghost use Rattle.wh_read.specs.Held as held;
 ghost use Rattle.wh_read.specs.Reader as r;
@@ -14,7 +14,7 @@ use crate::lexeme::Lexeme;
 use crate::place::{OpenMeta, OpenMetas, OpenType, Place, Purpose, Step};
 use crate::terms::behind_atom;
 use std::alloc::{AllocError, Global};
-use wh_parts::{Parts, RawFun, RawMeta, RawName};
+use wh_system_parts::{Parts, RawFun, RawMeta, RawName};
 use wh_text::{Name, RawTerm, RawType, RawTypes};
 
 /// The parentheses of a type nest that deep.

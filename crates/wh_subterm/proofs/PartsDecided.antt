@@ -2,7 +2,7 @@
 use Rattle.std.proofs.Common.{◌≡◌, inl, inr, Bool, true, false, refl, subst}
 use Rattle.wh_terms.specs.Tree.{Tm, fun, app, head}
 use Rattle.wh_system.proofs.TypedDecided.{Decided, decided_by, both_decided}
-use Rattle.wh_laws.proofs.SameTree.{same_tm, same_tm-equal, same_tm-self}
+use Rattle.wh_step_laws.proofs.SameTree.{same_tm, same_tm-equal, same_tm-self}
 use Rattle.wh_subterm.specs.ProperParts.{IsSymbol, Part, SomeArgumentHas}
 use Rattle.wh_subterm.proofs.PartLemmas.{part_from_argument, argument_from_part, last_has, front_has, has_cases}
 use Rattle.wh_pairs.proofs.Searches.{either_decided}

@@ -1,9 +1,9 @@
 -- Each fault but that of a polynomial that is not normal, or of a filter that is not proper, is found behind these.
 use Rattle.std.proofs.Common.{◌≡◌, ℕ, Bool, refl}
-use Rattle.wh_covering.specs.declared.fault.CoveringFault.{CoveringFault}
-use Rattle.wh_covering.specs.declared.fault.CoveringFault.TheVariants.{BadPolynomial, BadLines, BadDrop, NotClosed, Rule, Pair}
-use Rattle.wh_orienting.specs.declared.fault.OrderingFault.{OrderingFault}
-use Rattle.wh_orienting.specs.declared.fault.OrderingFault.TheVariants as order
+use Rattle.wh_poly_covering.specs.declared.fault.CoveringFault.{CoveringFault}
+use Rattle.wh_poly_covering.specs.declared.fault.CoveringFault.TheVariants.{BadPolynomial, BadLines, BadDrop, NotClosed, Rule, Pair}
+use Rattle.wh_order_check.specs.declared.fault.OrderingFault.{OrderingFault}
+use Rattle.wh_order_check.specs.declared.fault.OrderingFault.TheVariants as order
 use Rattle.wh_tell_nodes.specs.Later.{LeavesNormal, LeavesProper}
 
 pub normal_before : (f : CoveringFault) → ((s : ℕ) (m : Bool) → f ≡ BadPolynomial s m → ⊥) → LeavesNormal f

@@ -6,28 +6,28 @@ ghost use Rattle.wh_pairs.specs.PairData.{PairData};
 ghost use Rattle.wh_pairs.specs.SystemPairs.{HasPairs};
 ghost use Rattle.wh_pairs.specs.Views.{pairs_data};
 ghost use Rattle.wh_polycheck.specs.Covering.{IsTypedTask};
-ghost use Rattle.wh_reduction.specs.TaskView.{task_data};
+ghost use Rattle.wh_reduction_pairs.specs.TaskView.{task_data};
 ghost use Rattle.wh_order.specs.TreeSides.{AreFilters, HasTypedCalls};
-ghost use Rattle.wh_ordering.specs.Filterings.{AreFiltersFor};
-ghost use Rattle.wh_ordering.specs.FilteringView.{filtering_data};
+ghost use Rattle.wh_order_node.specs.Filterings.{AreFiltersFor};
+ghost use Rattle.wh_order_node.specs.FilteringView.{filtering_data};
 ghost use Rattle.wh_cert.specs.Said.{said_filter};
 ghost use Rattle.wh_checker.specs.Faults.{SayOrdering};
 ghost use Rattle.wh_tell_nodes.specs.Later.{LeavesProper};
 
 use std::alloc::{AllocError, Global};
 use wh_cert::OrderNode;
-use wh_inference::Inference;
-use wh_judging::Problem;
-use wh_meaning::pairs_have_marked_sides;
+use wh_order_inference::Inference;
+use wh_top_judging::Problem;
+use wh_poly_meaning::pairs_have_marked_sides;
 use wh_order::{TooWide, filtered_pair, filtered_rule};
-use wh_ordering::Filters;
-use wh_orienting::{Inferred, OrderingFault, check_ordering};
+use wh_order_node::Filters;
+use wh_order_check::{Inferred, OrderingFault, check_ordering};
 use wh_pairs::PairSet;
 use wh_proof::filters_of_lines;
-use wh_reduction::{Task, all_rules};
+use wh_reduction_pairs::{Task, all_rules};
 use wh_tell::{Names, Text, names_of_rule, put_pair_line, put_rule_line, tell_line};
 use wh_tell_parts::{Comparison, is_within, put_dropped, put_filters, put_inferred};
-use wh_trees::Tree;
+use wh_order_trees::Tree;
 use wh_types::{Or, is_in};
 
 // What is said of lines that don't name what they have to name.

@@ -8,7 +8,7 @@ use crate::ordered::put_order;
 use crate::values::put_interpretation;
 use std::alloc::{AllocError, Global};
 use wh_cert::{Node, YesCertificate};
-use wh_judging::Problem;
+use wh_top_judging::Problem;
 use wh_pairs::{PairSet, kept, numbers_below, set_of};
 use wh_tell::Piece::Count;
 use wh_tell::{Text, put_numbers, put_pairs, tell, tell_line};

@@ -10,21 +10,21 @@ ghost use Rattle.wh_polycheck.specs.Covering.{IsTypedTask};
 ghost use Rattle.wh_polycheck.specs.Marks.{HasMarkedSides};
 ghost use Rattle.wh_polycheck.specs.Readings.{AreNormal, AreProper, AreReadingsFor};
 ghost use Rattle.wh_polycheck.specs.ReadingsView.{readings_data};
-ghost use Rattle.wh_reduction.specs.TaskView.{task_data};
+ghost use Rattle.wh_reduction_pairs.specs.TaskView.{task_data};
 ghost use Rattle.wh_cert.specs.Said.{said_interp};
 ghost use Rattle.wh_checker.specs.Faults.{SayCovering};
 ghost use Rattle.wh_tell_nodes.specs.Later.{LeavesNormal};
 
 use std::alloc::{AllocError, Global};
 use wh_cert::PolyNode;
-use wh_covering::{CoveringFault, Evidence, check_covering};
-use wh_guesses::{pair_side, rule_side};
-use wh_judging::Problem;
-use wh_meaning::pairs_have_marked_sides;
+use wh_poly_covering::{CoveringFault, Evidence, check_covering};
+use wh_poly_guesses::{pair_side, rule_side};
+use wh_top_judging::Problem;
+use wh_poly_meaning::pairs_have_marked_sides;
 use wh_pairs::PairSet;
 use wh_polycheck::{Readings, interpretations_in_order_interpret};
 use wh_proof::{marks_of_set, rules_to_cover, symbols_of};
-use wh_reduction::Task;
+use wh_reduction_pairs::Task;
 use wh_tell::{Text, put_numbers, tell_line};
 use wh_tell_parts::{
     Valued, is_within, put_dropped, put_pair_values, put_readings, put_rule_values,

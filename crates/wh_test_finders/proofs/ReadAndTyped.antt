@@ -16,7 +16,7 @@ use Rattle.wh_polycheck.specs.Sides.{Interprets}
 use Rattle.wh_polycheck.specs.Readings.{AreProper}
 use Rattle.wh_polycheck.proofs.MarkedSides.{contains_there}
 use Rattle.wh_intern.specs.Trees.{tree_at}
-use Rattle.wh_numbered.specs.SidesInScope.{AreInScope, IsTypedIn}
+use Rattle.wh_intern_pairs.specs.SidesInScope.{AreInScope, IsTypedIn}
 
 -- symbols that are read in order, as normal polynomials, and no marks: one list behind three names
 pub proper : (d : SystemData) (items one other : List Symbol) → one ≡ items → other ≡ items

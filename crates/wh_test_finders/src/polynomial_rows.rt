@@ -12,7 +12,7 @@ use std::cmp::Ordering;
 use std::test::Fail;
 use wh_hopoly::PolyFault;
 use wh_intern::Table;
-use wh_numbered::{scope_of, side_by_number};
+use wh_intern_pairs::{scope_of, side_by_number};
 use wh_poly::{Poly, order};
 use wh_polycheck::{Readings, interpretations_in_order_interpret};
 use wh_system::System;

@@ -5,13 +5,13 @@ ghost use Rattle.wh_system.specs.SystemView.{system_data};
 ghost use Rattle.wh_pairs.specs.PairData.{PairData, pair_data};
 ghost use Rattle.wh_pairs.specs.SystemPairs.{HasPairs};
 ghost use Rattle.wh_intern.specs.TableTrees.{trees};
-ghost use Rattle.wh_numbered.specs.NumberedSides.{AreSides};
+ghost use Rattle.wh_intern_pairs.specs.NumberedSides.{AreSides};
 
 use crate::problem::{pairs_of, system_of};
 use std::alloc::{AllocError, Global};
 use std::test::Fail;
 use wh_intern::{Sides, Table};
-use wh_numbered::{check_numbered, number_pairs};
+use wh_intern_pairs::{check_numbered, number_pairs};
 use wh_pairs::{PairList, PairSet};
 use wh_subterm::{Choice, Projection, SubtermFault};
 use wh_system::System;

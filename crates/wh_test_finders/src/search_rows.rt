@@ -9,7 +9,7 @@ use crate::problem::{pairs_of, system_of};
 use std::alloc::{AllocError, Global};
 use std::test::Fail;
 use wh_find_subterm::find_projection_by;
-use wh_numbered::number_if_shared;
+use wh_intern_pairs::number_if_shared;
 use wh_pairs::{Pair, PairList, PairSet};
 use wh_sat::Search;
 use wh_system::System;

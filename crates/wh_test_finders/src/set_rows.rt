@@ -13,7 +13,7 @@ use std::test::Fail;
 use wh_cert::{Node, OrderNode};
 use wh_find_flat::{find_by_circuit, is_flat};
 use wh_find_order::find_order;
-use wh_find_pairs::pairs;
+use wh_pairs_making::pairs;
 use wh_pairs::{PairList, PairSet};
 use wh_read::{Refused, read_system};
 use wh_sat::Search;

@@ -8,7 +8,7 @@ use std::alloc::{AllocError, Global};
 use std::process::Abort;
 use std::test::Fail;
 use wh_access::{Inaccessible, NoRanks, check_ranks, find_ranks};
-use wh_find_pairs::{TooManyPairs, pairs};
+use wh_pairs_making::{TooManyPairs, pairs};
 use wh_graph::{BlockFault, check_blocks, components, may_follow};
 use wh_pairs::{PairList, PairSet};
 use wh_read::{Refused, read_system};

@@ -19,7 +19,7 @@ ghost use Rattle.wh_access.specs.Samples.{
   untyped,
   untyped_rules,
 };
-ghost use Rattle.wh_laws.specs.Ranks.{rank_of};
+ghost use Rattle.wh_step_laws.specs.Ranks.{rank_of};
 
 use crate::asking::{Asked, Question, expect_answers};
 use std::alloc::{AllocError, Global};

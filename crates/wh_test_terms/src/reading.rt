@@ -7,7 +7,7 @@ ghost use Rattle.wh_terms.specs.Measures.{Fits, Manageable};
 ghost use Rattle.wh_terms.specs.Sight.{IsTerm, LooseBelow};
 
 use std::alloc::{AllocError, Global};
-use wh_making::NameTables;
+use wh_system_making::NameTables;
 use wh_read::{Refused, read_system};
 use wh_system::System;
 use wh_terms::{Term, fits};

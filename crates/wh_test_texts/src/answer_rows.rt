@@ -6,7 +6,7 @@ use std::alloc::{AllocError, Global};
 use std::process::Abort;
 use std::test::Fail;
 use wh_answer::print_answer;
-use wh_read_answer::read_answer;
+use wh_answer_reader::read_answer;
 
 /// A line of each variant of a report, of a rejection, and of a cause.
 const LINES: [&str; 64] = [

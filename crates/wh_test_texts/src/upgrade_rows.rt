@@ -9,7 +9,7 @@ use wh_cert::Certificate;
 use wh_cert_print::print_certificate;
 use wh_cert_text::read_certificate;
 use wh_types::{Bytes, Or};
-use wh_upgrade::upgrade;
+use wh_cert_upgrade::upgrade;
 
 /// Texts of certificates, each with a number of rules, and the texts of the upgraded ones.
 const UPGRADED: &[(&[u8], u32, &[u8])] = &[

@@ -3,7 +3,7 @@
 use clap::{Arg, ArgMatches, Command as Stock};
 use std::alloc::{AllocError, Global};
 use std::test::Fail;
-use wh_words::{Command, Limits, read_words};
+use wh_top_words::{Command, Limits, read_words};
 
 /// The program's name and its words.
 const ROWS: &[&[&str]] = &[

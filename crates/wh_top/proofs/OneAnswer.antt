@@ -15,9 +15,9 @@ use Rattle.wh_checker.proofs.FaultLaws.{first_fault_one, small_or_fault}
 use Rattle.wh_answer.specs.declared.report.NamedRejection.TheVariants.{Syntax}
 use Rattle.wh_answer.specs.declared.report.Report.{Report}
 use Rattle.wh_answer.specs.declared.report.Report.TheVariants.{Yes, No, Rejected, Overflow, TooLarge}
-use Rattle.wh_judging.specs.Outcomes.{Weighed, Judged}
-use Rattle.wh_naming.specs.Rows.{named_row}
-use Rattle.wh_replies.specs.Complete.{AreOneAnswer}
+use Rattle.wh_top_judging.specs.Outcomes.{Weighed, Judged}
+use Rattle.wh_top_naming.specs.Rows.{named_row}
+use Rattle.wh_top_replies.specs.Complete.{AreOneAnswer}
 
 -- the answer to a certificate that is valid and small, and the answer to a fault
 abbrev acceptance : Cert → Report

@@ -19,8 +19,8 @@ use Rattle.wh_answer.specs.declared.report.NamedRejection.{NamedRejection}
 use Rattle.wh_answer.specs.declared.report.NamedRejection.TheVariants.{Syntax}
 use Rattle.wh_answer.specs.declared.report.Report.{Report}
 use Rattle.wh_answer.specs.declared.report.Report.TheVariants.{Yes, No, Rejected, Overflow, TooLarge}
-use Rattle.wh_judging.specs.Outcomes.{IsRejectedFor, Judged}
-use Rattle.wh_naming.specs.Rows.{named_row}
+use Rattle.wh_top_judging.specs.Outcomes.{IsRejectedFor, Judged}
+use Rattle.wh_top_naming.specs.Rows.{named_row}
 
 abbrev IsAnswered : SystemData → List PairData → List ℕ → Type 0
 IsAnswered d ps bytes = (o : Report) × Judged d ps bytes o

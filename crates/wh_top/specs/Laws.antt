@@ -10,7 +10,7 @@ use Rattle.wh_polycheck.specs.Small.{with_limits}
 use Rattle.wh_checker.specs.Accepted.{AreBounded, IsUnbounded}
 use Rattle.wh_checker.specs.Faults.{IsFirstFault}
 use Rattle.wh_checker.specs.declared.rejected.CheckFault.{CheckFault}
-use Rattle.wh_loops.specs.Found.{IsLoopCertificate}
+use Rattle.wh_loop_starts.specs.Found.{IsLoopCertificate}
 use Rattle.wh_prover.specs.Answers.{IsProof, IsLoopProof}
 
 -- the text of a proof is that of no other certificate, and no fault is the first of it, also where values have limits

@@ -7,8 +7,8 @@ ghost use Rattle.wh_answer.specs.declared.report.Report.{Report};
 ghost use Rattle.wh_pairs.specs.PairData.{PairData};
 ghost use Rattle.wh_system.specs.Systems.{SystemData};
 ghost use Rattle.wh_system.specs.WellMade.{IsWellMadeSystem};
-ghost use Rattle.wh_replies.specs.Complete.{AreOneAnswer};
-ghost use Rattle.wh_judging.specs.Outcomes.{Judged};
+ghost use Rattle.wh_top_replies.specs.Complete.{AreOneAnswer};
+ghost use Rattle.wh_top_judging.specs.Outcomes.{Judged};
 
 use wh_checker::valid_certificates_mean_bounded;
 use wh_no::valid_claims_are_unbounded;

@@ -9,5 +9,5 @@ pub use laws::{
     proofs_are_accepted, proofs_mean_bounded,
 };
 pub use program::{report_no_memory, run};
-pub use wh_naming::Status;
-pub use wh_words::{Command, read_words};
+pub use wh_top_naming::Status;
+pub use wh_top_words::{Command, read_words};

@@ -3,16 +3,16 @@
 ghost use Rattle.std.specs.Prelude.{◌≡◌, ◌++◌, ℕ, List, Some, map, codes, string_bytes};
 ghost use Rattle.wh_answer.specs.Texts.{report_text};
 ghost use Rattle.wh_answer.specs.declared.report.Report.TheVariants.{OutOfMemory};
-ghost use Rattle.wh_judging.specs.Outcomes.{BeginsWith, Told, outside};
-ghost use Rattle.wh_replies.specs.Run.{Answers, EndsWith, MeansYes, SaysNo};
-ghost use Rattle.wh_replies.specs.Words.{AsksWhether};
+ghost use Rattle.wh_top_judging.specs.Outcomes.{BeginsWith, Told, outside};
+ghost use Rattle.wh_top_replies.specs.Run.{Answers, EndsWith, MeansYes, SaysNo};
+ghost use Rattle.wh_top_replies.specs.Words.{AsksWhether};
 
 use std::alloc::Global;
 use wh_answer::{bad_words_line, out_of_memory_line};
 use wh_io::{Shelf, Sink, write_all_of};
-use wh_naming::Status;
-use wh_replies::reply_to;
-use wh_words::read_words;
+use wh_top_naming::Status;
+use wh_top_replies::reply_to;
+use wh_top_words::read_words;
 
 /// Does what the words ask, reads files from the shelf and writes one text to the sink.
 ///

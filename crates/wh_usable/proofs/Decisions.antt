@@ -11,10 +11,10 @@ use Rattle.wh_system.proofs.TypedDecided.{Decided, HasType, below_decided, decid
 use Rattle.wh_pairs.specs.PairData.{PairData, IsIncreasing}
 use Rattle.wh_pairs.proofs.ByPlace.{some_one, contains_at}
 use Rattle.wh_pairs.proofs.Searches.{all_decided, not_decided, not_refuted, equal_decided, list_decided, member_decided, some_below, first_place}
-use Rattle.wh_reduction.specs.TaskData.{TaskData, numbers_from}
+use Rattle.wh_reduction_pairs.specs.TaskData.{TaskData, numbers_from}
 use Rattle.wh_hopoly.specs.Evaluation.{type_at}
 use Rattle.wh_polycheck.specs.Marks.{marked_types}
-use Rattle.wh_first_order.specs.FirstOrder.{AreSorts, IsNullary, IsFlatTree, AreFlatTrees}
+use Rattle.wh_usable_first_order.specs.FirstOrder.{AreSorts, IsNullary, IsFlatTree, AreFlatTrees}
 use Rattle.wh_usable.specs.Closed.{AreRulesInOrder, HaveSymbol, ListsRulesOf, ListsRulesIn, ListsRulesInEach, IsClosedRule, IsClosedPair, AreClosedPairs, IsClosed}
 use Rattle.wh_usable.specs.Open.{IsFirstNot, IsFirstOpen}
 use Rattle.wh_usable.specs.declared.closed.NotClosed.{NotClosed}

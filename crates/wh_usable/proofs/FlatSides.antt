@@ -4,7 +4,7 @@ use Rattle.wh_terms.specs.Erase.{tms}
 use Rattle.wh_terms.specs.Tree.{meta}
 use Rattle.wh_terms.specs.Typing.{Symbols, Declared}
 use Rattle.wh_terms.specs.declared.term.Term.{Term}
-use Rattle.wh_first_order.specs.FirstOrder.{IsFlatTree, IsNullary}
+use Rattle.wh_usable_first_order.specs.FirstOrder.{IsFlatTree, IsNullary}
 
 pub flat_if : (S : Symbols) (M : List Declared) (z : ℕ) (ts : List Term) → length ts ≡ 0 → IsNullary M z → IsFlatTree S M (meta z (tms ts))
 flat_if S M z [] none h = h

@@ -3,7 +3,7 @@ use Rattle.std.proofs.Common.{◌≡◌, ◌↔◌, ℕ, Bool, IsTrue, List, [],
 use Rattle.wh_types.specs.Ty.{Ty, sort}
 use Rattle.wh_terms.specs.Typing.{Symbols, Typed}
 use Rattle.wh_terms.specs.Rules.{RewriteRule, IsWellMade}
-use Rattle.wh_first_order.specs.FirstOrder.{IsFlatTree}
+use Rattle.wh_usable_first_order.specs.FirstOrder.{IsFlatTree}
 use Rattle.wh_usable.specs.Closed.{ListsRulesIn, IsClosedRule}
 
 pub closed_rule : (S : Symbols) (rules : List RewriteRule) (listed : List ℕ) (r : RewriteRule) (calls : Bool) → IsWellMade S r

@@ -1,8 +1,8 @@
 -- All numbers below a bound are an increasing list, and increasing numbers below it, as many as there are, are all of them.
 use Rattle.std.proofs.Common.{◌≡◌, ℕ, zero, suc, ◌+◌, ◌<◌, ◌≤◌, List, [], ◌∷◌, length, All, refl, ap, ap₂, ◌∙◌, arith}
 use Rattle.wh_pairs.specs.PairData.{IsIncreasing}
-use Rattle.wh_reduction.specs.TaskData.{numbers_from}
-use Rattle.wh_reduction.proofs.Numbers.{numbers_length, numbers_within}
+use Rattle.wh_reduction_pairs.specs.TaskData.{numbers_from}
+use Rattle.wh_reduction_pairs.proofs.Numbers.{numbers_length, numbers_within}
 use Rattle.wh_usable.specs.Closed.{AreRulesInOrder}
 
 numbers_increase : (n k : ℕ) → IsIncreasing (numbers_from n k)

@@ -6,9 +6,9 @@ use Rattle.wh_terms.specs.Typing.{Symbols, Typed}
 use Rattle.wh_terms.specs.Rules.{RewriteRule}
 use Rattle.wh_pairs.specs.PairData.{PairData, IsIncreasing}
 use Rattle.wh_pairs.specs.Sets.{InSet}
-use Rattle.wh_reduction.specs.TaskData.{TaskData, CoversAll}
+use Rattle.wh_reduction_pairs.specs.TaskData.{TaskData, CoversAll}
 use Rattle.wh_polycheck.specs.Marks.{marked_types}
-use Rattle.wh_first_order.specs.FirstOrder.{AreSorts, IsFlatTree, AreFlatTrees}
+use Rattle.wh_usable_first_order.specs.FirstOrder.{AreSorts, IsFlatTree, AreFlatTrees}
 
 abbrev mutual
   -- the symbol occurs in the tree

@@ -1,6 +1,6 @@
 -- The first rule or pair for which a list of rules is not closed.
 use Rattle.std.specs.Prelude.{ℕ, ◌<◌, ◌≡◌, List, Some, slice_get}
-use Rattle.wh_reduction.specs.TaskData.{TaskData, CoversAll}
+use Rattle.wh_reduction_pairs.specs.TaskData.{TaskData, CoversAll}
 use Rattle.wh_usable.specs.Closed.{IsClosedRule, IsClosedPair, AreClosedRules}
 use Rattle.wh_usable.specs.declared.closed.NotClosed.{NotClosed}
 use Rattle.wh_usable.specs.declared.closed.NotClosed.TheVariants.{Rule, Pair}

@@ -7,7 +7,7 @@ ghost use Rattle.wh_terms.specs.Tree.{fun, head};
 ghost use Rattle.wh_terms.specs.Typing.{Declared, Symbols};
 ghost use Rattle.wh_pairs.specs.PairData.{IsIncreasing};
 ghost use Rattle.wh_system.specs.SystemView.{system_data};
-ghost use Rattle.wh_first_order.specs.FirstOrder.{AreFlatTrees, IsFlatTree};
+ghost use Rattle.wh_usable_first_order.specs.FirstOrder.{AreFlatTrees, IsFlatTree};
 ghost use Rattle.wh_usable.specs.Closed.{ListsRulesIn, ListsRulesInEach, ListsRulesOf};
 ghost use Rattle.wh_usable.specs.Tables.{IsCleared, IsTableOf};
 

@@ -5,19 +5,19 @@ ghost use Rattle.wh_terms.specs.Erase.{rewrite_rule, symbols};
 ghost use Rattle.wh_terms.specs.Rules.{IsWellMade};
 ghost use Rattle.wh_pairs.specs.PairData.{IsIncreasing, pair_data};
 ghost use Rattle.wh_system.specs.SystemView.{system_data};
-ghost use Rattle.wh_reduction.specs.TaskData.{IsTask};
-ghost use Rattle.wh_reduction.specs.TaskView.{task_data};
+ghost use Rattle.wh_reduction_pairs.specs.TaskData.{IsTask};
+ghost use Rattle.wh_reduction_pairs.specs.TaskView.{task_data};
 ghost use Rattle.wh_polycheck.specs.Marks.{marked_types};
-ghost use Rattle.wh_first_order.specs.FirstOrder.{AreFlatTrees, AreSorts, IsFlatTree};
+ghost use Rattle.wh_usable_first_order.specs.FirstOrder.{AreFlatTrees, AreSorts, IsFlatTree};
 ghost use Rattle.wh_usable.specs.Closed.{AreClosedPairs, AreClosedRules, IsClosed, IsClosedPair, IsClosedRule};
 ghost use Rattle.wh_usable.specs.Tables.{IsTableOf};
 ghost use Rattle.wh_usable.specs.Open.{IsFirstOpen, IsFirstOpenPair, IsFirstOpenRule};
 
 use crate::calls::{MOST_SYMBOLS, calls_listed, each_calls_listed, look_up};
 use crate::sides::{are_flat, is_flat};
-use wh_first_order::{is_of_a_sort, takes_sorts_first};
+use wh_usable_first_order::{is_of_a_sort, takes_sorts_first};
 use wh_pairs::Pair;
-use wh_reduction::Task;
+use wh_reduction_pairs::Task;
 use wh_system::System;
 use wh_terms::{Rule, Signature};
 

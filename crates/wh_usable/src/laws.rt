@@ -1,7 +1,7 @@
 //! A list of rules is closed for a set, or it has a first fault: the contract of a function that does nothing.
 
 ghost use Rattle.std.specs.Prelude.{◌≡◌, ◌⊎◌};
-ghost use Rattle.wh_reduction.specs.TaskData.{TaskData};
+ghost use Rattle.wh_reduction_pairs.specs.TaskData.{TaskData};
 ghost use Rattle.wh_usable.specs.Closed.{IsClosed};
 ghost use Rattle.wh_usable.specs.Open.{IsFirstOpen};
 ghost use Rattle.wh_usable.specs.declared.closed.NotClosed.{NotClosed};

@@ -5,15 +5,15 @@ use Rattle.wh_terms.specs.Tree.{Tm, bound, free, fun, meta, lam, app}
 use Rattle.wh_terms.specs.Typing.{Symbols}
 use Rattle.wh_terms.specs.Rules.{RewriteRule, AreWellMade}
 use Rattle.wh_step.specs.Step.{Step, in_function, in_argument}
-use Rattle.wh_laws.specs.Ends.{Ends, ends}
-use Rattle.wh_laws.specs.DirectSubterms.{HasPart, function_part, argument_part, StepOrPart}
-use Rattle.wh_laws.proofs.Listed.{In}
-use Rattle.wh_laws.proofs.PartLaws.{PassesToParts, ends-parts}
-use Rattle.wh_laws.proofs.SystemSteps.{IsShutTerm, shut-step, steps_listed}
+use Rattle.wh_step_laws.specs.Ends.{Ends, ends}
+use Rattle.wh_step_laws.specs.DirectSubterms.{HasPart, function_part, argument_part, StepOrPart}
+use Rattle.wh_step_laws.proofs.Listed.{In}
+use Rattle.wh_step_laws.proofs.PartLaws.{PassesToParts, ends-parts}
+use Rattle.wh_step_laws.proofs.SystemSteps.{IsShutTerm, shut-step, steps_listed}
 use Rattle.wh_hopoly.specs.Evaluation.{Interpretation, interpretation_at}
-use Rattle.wh_meaning.specs.Functionals.{Sem, Mono, nothing}
-use Rattle.wh_meaning.specs.TermValues.{of_interpretations}
-use Rattle.wh_meaning.proofs.Order.{mono_nothing, reading_mono}
+use Rattle.wh_poly_meaning.specs.Functionals.{Sem, Mono, nothing}
+use Rattle.wh_poly_meaning.specs.TermValues.{of_interpretations}
+use Rattle.wh_poly_meaning.proofs.Order.{mono_nothing, reading_mono}
 use Rattle.wh_usable_calls.specs.Bounds.{IsFlatCall, IsWholeCall, Bounds, by_reading, by_reading_and_steps, by_steps, Reads, reads_symbol, reads_application}
 use Rattle.wh_usable_calls.proofs.FlatCalls.{whole_or_not}
 

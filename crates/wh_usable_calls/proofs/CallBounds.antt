@@ -11,15 +11,15 @@ use Rattle.wh_terms.specs.Value.{Body, Values, of_more}
 use Rattle.wh_terms.proofs.TypingLaws.{typed_loose, typed_term}
 use Rattle.wh_terms.proofs.ValueLaws.{value_is}
 use Rattle.wh_step.specs.Step.{Step}
-use Rattle.wh_laws.specs.Ends.{Ends, StepsIn, step_here, step_there}
+use Rattle.wh_step_laws.specs.Ends.{Ends, StepsIn, step_here, step_there}
 use Rattle.wh_hopoly.specs.Evaluation.{Interpretation}
 use Rattle.wh_polycheck.specs.Sides.{arrows}
-use Rattle.wh_first_order.specs.FirstOrder.{AreSorts, AreFlatTrees}
+use Rattle.wh_usable_first_order.specs.FirstOrder.{AreSorts, AreFlatTrees}
 use Rattle.wh_usable.specs.Closed.{ListsRulesInEach}
-use Rattle.wh_meaning.specs.Functionals.{Sem, Mono}
-use Rattle.wh_meaning.specs.Calls.{all_nothing}
-use Rattle.wh_meaning.proofs.Order.{le_nat, le_valuation_same}
-use Rattle.wh_meaning.proofs.TermValues.{fed_le}
+use Rattle.wh_poly_meaning.specs.Functionals.{Sem, Mono}
+use Rattle.wh_poly_meaning.specs.Calls.{all_nothing}
+use Rattle.wh_poly_meaning.proofs.Order.{le_nat, le_valuation_same}
+use Rattle.wh_poly_meaning.proofs.TermValues.{fed_le}
 use Rattle.wh_usable_calls.specs.Bounds.{Bounds, BoundsFed}
 use Rattle.wh_usable_calls.proofs.BoundLaws.{bounds_more, ending_bound}
 use Rattle.wh_usable_calls.proofs.Numbers.{by_numbers_of, nothings_mono, numbers_mono, at_numbers, fed_numbers, side_below}

@@ -7,8 +7,8 @@ use Rattle.wh_terms.specs.Value.{Body}
 use Rattle.wh_terms.proofs.TypingLaws.{some_one}
 use Rattle.wh_terms.proofs.ValueForm.{value}
 use Rattle.wh_hopoly.specs.Evaluation.{type_at}
-use Rattle.wh_first_order.specs.FirstOrder.{AreSorts, IsFlatTree, IsNullary}
-use Rattle.wh_meaning.proofs.TermValues.{at_is}
+use Rattle.wh_usable_first_order.specs.FirstOrder.{AreSorts, IsFlatTree, IsNullary}
+use Rattle.wh_poly_meaning.proofs.TermValues.{at_is}
 use Rattle.wh_usable_calls.specs.Bounds.{IsFlatCall, IsWholeCall}
 
 -- parts of equal types

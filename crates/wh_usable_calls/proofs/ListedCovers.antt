@@ -11,22 +11,22 @@ use Rattle.wh_pairs.proofs.FewLemmas.{in_one, from_one}
 use Rattle.wh_hopoly.specs.Evaluation.{symbol, Interpretation, type_of, evaluate, NormalInterpretations}
 use Rattle.wh_hopoly.specs.Moves.{Transfer}
 use Rattle.wh_hopoly.proofs.ValueLaws.{interpretation_is}
-use Rattle.wh_reduction.specs.TaskData.{TaskData}
-use Rattle.wh_reduction.specs.ReductionPair.{Evidence}
+use Rattle.wh_reduction_pairs.specs.TaskData.{TaskData}
+use Rattle.wh_reduction_pairs.specs.ReductionPair.{Evidence}
 use Rattle.wh_polycheck.specs.Sides.{arrows, types_of_metas, side_applied, call_polynomial, Interprets, RuleIsCovered}
 use Rattle.wh_polycheck.specs.Marks.{marked_interpretation, with_marks}
 use Rattle.wh_polycheck.specs.Readings.{ReadingsData}
 use Rattle.wh_polycheck.specs.Covering.{IsCovering}
 use Rattle.wh_polycheck.proofs.MoreInterpretations.{rules_covered_more}
 use Rattle.wh_polycheck.proofs.SideTypes.{side_applied_typed, HasSideType}
-use Rattle.wh_meaning.specs.Functionals.{Sem}
-use Rattle.wh_meaning.specs.Valuations.{Valuation}
-use Rattle.wh_meaning.specs.Meaning.{den}
-use Rattle.wh_meaning.specs.TermValues.{Meanings, fed, of_interpretations}
-use Rattle.wh_meaning.specs.Calls.{IsMarkedSide}
-use Rattle.wh_meaning.proofs.Mean.{den_value}
-use Rattle.wh_meaning.proofs.SideMeans.{symbol_means, mean_applied}
-use Rattle.wh_meaning.proofs.Steps.{reading_at}
+use Rattle.wh_poly_meaning.specs.Functionals.{Sem}
+use Rattle.wh_poly_meaning.specs.Valuations.{Valuation}
+use Rattle.wh_poly_meaning.specs.Meaning.{den}
+use Rattle.wh_poly_meaning.specs.TermValues.{Meanings, fed, of_interpretations}
+use Rattle.wh_poly_meaning.specs.Calls.{IsMarkedSide}
+use Rattle.wh_poly_meaning.proofs.Mean.{den_value}
+use Rattle.wh_poly_meaning.proofs.SideMeans.{symbol_means, mean_applied}
+use Rattle.wh_poly_meaning.proofs.Steps.{reading_at}
 use Rattle.wh_usable_calls.proofs.StepBounds.{IsListedRule}
 
 -- a list of one well-made rule is well made

@@ -4,14 +4,14 @@ use Rattle.wh_types.specs.Ty.{Ty, sort, ◌⇒◌}
 use Rattle.wh_terms.specs.Tree.{Tm, bound, free, fun, meta, lam, app, none, more, tms_of}
 use Rattle.wh_terms.specs.Typing.{Symbols, Declared, Typed, typed_app}
 use Rattle.wh_hopoly.specs.Evaluation.{Interpretation, interpretation_at}
-use Rattle.wh_first_order.specs.FirstOrder.{IsFlatTree, IsNullary}
+use Rattle.wh_usable_first_order.specs.FirstOrder.{IsFlatTree, IsNullary}
 use Rattle.wh_polycheck.specs.Sides.{arrows}
-use Rattle.wh_meaning.specs.Functionals.{Sem, Mono, Le, nothing}
-use Rattle.wh_meaning.specs.Valuations.{Valuation, MonoValuation}
-use Rattle.wh_meaning.specs.TermValues.{Meanings, MonoMeanings, value_in, fed, of_interpretations}
-use Rattle.wh_meaning.specs.Calls.{all_nothing}
-use Rattle.wh_meaning.proofs.Order.{le_same, le_then, mono_nothing, reading_mono}
-use Rattle.wh_meaning.proofs.TermValues.{declared_is, has_same, type_is, value_app, value_mono}
+use Rattle.wh_poly_meaning.specs.Functionals.{Sem, Mono, Le, nothing}
+use Rattle.wh_poly_meaning.specs.Valuations.{Valuation, MonoValuation}
+use Rattle.wh_poly_meaning.specs.TermValues.{Meanings, MonoMeanings, value_in, fed, of_interpretations}
+use Rattle.wh_poly_meaning.specs.Calls.{all_nothing}
+use Rattle.wh_poly_meaning.proofs.Order.{le_same, le_then, mono_nothing, reading_mono}
+use Rattle.wh_poly_meaning.proofs.TermValues.{declared_is, has_same, type_is, value_app, value_mono}
 use Rattle.wh_usable_calls.proofs.FlatCalls.{nullary_sort}
 
 -- each variable of a sort means its number

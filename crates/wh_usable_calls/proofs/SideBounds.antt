@@ -10,12 +10,12 @@ use Rattle.wh_terms.specs.Rules.{RewriteRule}
 use Rattle.wh_terms.specs.Value.{Body}
 use Rattle.wh_terms.proofs.ValueForm.{value}
 use Rattle.wh_hopoly.specs.Evaluation.{Interpretation}
-use Rattle.wh_first_order.specs.FirstOrder.{IsFlatTree, IsNullary}
+use Rattle.wh_usable_first_order.specs.FirstOrder.{IsFlatTree, IsNullary}
 use Rattle.wh_usable.specs.Closed.{HasSymbol, ListsRulesIn}
-use Rattle.wh_meaning.specs.Functionals.{Sem, Le}
-use Rattle.wh_meaning.specs.TermValues.{of_interpretations}
-use Rattle.wh_meaning.proofs.Order.{le_nat, le_same, le_then}
-use Rattle.wh_meaning.proofs.TermValues.{at_is}
+use Rattle.wh_poly_meaning.specs.Functionals.{Sem, Le}
+use Rattle.wh_poly_meaning.specs.TermValues.{of_interpretations}
+use Rattle.wh_poly_meaning.proofs.Order.{le_nat, le_same, le_then}
+use Rattle.wh_poly_meaning.proofs.TermValues.{at_is}
 use Rattle.wh_usable_calls.specs.Bounds.{Bounds, by_reading, Reads, reads_symbol, reads_application}
 use Rattle.wh_usable_calls.proofs.FlatCalls.{argument_one, result_one, sort_one, IsHeaded, arrow_headed, argument_sort, value_call}
 use Rattle.wh_usable_calls.proofs.BoundLaws.{bounds_more, reads_mono, bound_reading}

@@ -15,10 +15,10 @@ use Rattle.wh_pairs.proofs.ByPlace.{place_of}
 use Rattle.wh_hopoly.specs.Evaluation.{Interpretation, NormalInterpretations}
 use Rattle.wh_polycheck.specs.Sides.{Interprets, RuleIsCovered}
 use Rattle.wh_usable.specs.Closed.{IsClosedRule}
-use Rattle.wh_meaning.specs.Functionals.{Sem}
-use Rattle.wh_meaning.specs.Calls.{all_nothing}
-use Rattle.wh_meaning.proofs.Order.{le_nat}
-use Rattle.wh_meaning.proofs.Steps.{covered_le}
+use Rattle.wh_poly_meaning.specs.Functionals.{Sem}
+use Rattle.wh_poly_meaning.specs.Calls.{all_nothing}
+use Rattle.wh_poly_meaning.proofs.Order.{le_nat}
+use Rattle.wh_poly_meaning.proofs.Steps.{covered_le}
 use Rattle.wh_usable_calls.specs.Bounds.{HasListedHead, Bounds, by_reading, by_reading_and_steps, by_steps, Reads, reads_application}
 use Rattle.wh_usable_calls.proofs.FlatCalls.{head_headed}
 use Rattle.wh_usable_calls.proofs.BoundLaws.{bounds_more}

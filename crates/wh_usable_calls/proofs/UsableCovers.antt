@@ -13,12 +13,12 @@ use Rattle.wh_step.specs.Step.{Step}
 use Rattle.wh_pairs.specs.PairData.{PairData}
 use Rattle.wh_pairs.specs.Drops.{IsDropped}
 use Rattle.wh_pairs.specs.Sets.{IsSetOf, IsKept, InSet}
-use Rattle.wh_calls.specs.MarkedCalls.{MarkedCall, IsTypedCall, PairLeads, PairStep, SomePairStep, ArgumentsStep, CallsEnd}
-use Rattle.wh_calls.specs.CallOrders.{by_numbers, HasNoMore, HasLess}
-use Rattle.wh_calls.proofs.Measured.{ends_measured}
-use Rattle.wh_reduction.specs.TaskData.{TaskData}
-use Rattle.wh_reduction.specs.ReductionPair.{Evidence}
-use Rattle.wh_reduction.proofs.LinesShow.{pair_shown}
+use Rattle.wh_proof_calls.specs.MarkedCalls.{MarkedCall, IsTypedCall, PairLeads, PairStep, SomePairStep, ArgumentsStep, CallsEnd}
+use Rattle.wh_proof_calls.specs.CallOrders.{by_numbers, HasNoMore, HasLess}
+use Rattle.wh_proof_calls.proofs.Measured.{ends_measured}
+use Rattle.wh_reduction_pairs.specs.TaskData.{TaskData}
+use Rattle.wh_reduction_pairs.specs.ReductionPair.{Evidence}
+use Rattle.wh_reduction_pairs.proofs.LinesShow.{pair_shown}
 use Rattle.wh_poly.specs.Polynomials.{Polynomial, Normal}
 use Rattle.wh_hopoly.specs.Evaluation.{Interpretation, interpretation_at, NormalInterpretations}
 use Rattle.wh_hopoly.specs.Moves.{Transfer}
@@ -28,18 +28,18 @@ use Rattle.wh_polycheck.specs.Readings.{ReadingsData, AreProper}
 use Rattle.wh_polycheck.specs.Covering.{by_moves, IsCovering, HaveTypedSides}
 use Rattle.wh_polycheck.proofs.MoreInterpretations.{interprets_more, mark_interpreted, normal_with_marks}
 use Rattle.wh_polycheck.proofs.ProperReadings.{proper_readings, sides_of_set}
-use Rattle.wh_first_order.specs.FirstOrder.{AreSorts}
+use Rattle.wh_usable_first_order.specs.FirstOrder.{AreSorts}
 use Rattle.wh_usable.specs.Closed.{AreClosedRules, AreClosedPairs, IsClosed, IsUsable}
-use Rattle.wh_meaning.specs.Functionals.{Sem, Mono, nothing}
-use Rattle.wh_meaning.specs.Meaning.{den}
-use Rattle.wh_meaning.specs.TermValues.{of_interpretations}
-use Rattle.wh_meaning.specs.Calls.{all_nothing, IsMarkedSide}
-use Rattle.wh_meaning.proofs.Order.{le_nat, mono_nothing, reading_mono}
-use Rattle.wh_meaning.proofs.TermValues.{at_is}
-use Rattle.wh_meaning.proofs.Covers.{cover_den, strict_cover_den}
-use Rattle.wh_meaning.proofs.CallValues.{call_normal}
-use Rattle.wh_meaning.proofs.CoverLaws.{covering_ends}
-use Rattle.wh_meaning.proofs.Measures.{numbers_end, numbers_together}
+use Rattle.wh_poly_meaning.specs.Functionals.{Sem, Mono, nothing}
+use Rattle.wh_poly_meaning.specs.Meaning.{den}
+use Rattle.wh_poly_meaning.specs.TermValues.{of_interpretations}
+use Rattle.wh_poly_meaning.specs.Calls.{all_nothing, IsMarkedSide}
+use Rattle.wh_poly_meaning.proofs.Order.{le_nat, mono_nothing, reading_mono}
+use Rattle.wh_poly_meaning.proofs.TermValues.{at_is}
+use Rattle.wh_poly_meaning.proofs.Covers.{cover_den, strict_cover_den}
+use Rattle.wh_poly_meaning.proofs.CallValues.{call_normal}
+use Rattle.wh_poly_meaning.proofs.CoverLaws.{covering_ends}
+use Rattle.wh_poly_meaning.proofs.Measures.{numbers_end, numbers_together}
 use Rattle.wh_usable_calls.specs.Bounds.{Bounds, BoundsFed}
 use Rattle.wh_usable_calls.proofs.BoundLaws.{bounds_more}
 use Rattle.wh_usable_calls.proofs.Numbers.{numbered, numbered_mono, by_numbers_of, fed_numbers}
@@ -47,7 +47,7 @@ use Rattle.wh_usable_calls.proofs.SideBounds.{HasNumbers}
 use Rattle.wh_usable_calls.proofs.StepBounds.{step_bound}
 use Rattle.wh_usable_calls.proofs.CallBounds.{ending_fed, step_fed, list_numbers, list_lowers, list_fed}
 use Rattle.wh_usable_calls.proofs.ListedCovers.{listed_covered, marked_worth}
-use Rattle.wh_meaning.proofs.PairsEnd.{occurs_right}
+use Rattle.wh_poly_meaning.proofs.PairsEnd.{occurs_right}
 
 -- the types of the arguments of a typed call
 typed_at_marked : (S : Symbols) (rules : List RewriteRule) (c : MarkedCall) → IsTypedCall S rules c

@@ -7,8 +7,8 @@ use Rattle.wh_terms.specs.Rules.{RewriteRule}
 use Rattle.wh_step.specs.Step.{Step}
 use Rattle.wh_hopoly.specs.Evaluation.{type_at, Interpretation}
 use Rattle.wh_polycheck.specs.Sides.{arrows}
-use Rattle.wh_meaning.specs.Functionals.{Sem}
-use Rattle.wh_meaning.specs.TermValues.{of_interpretations}
+use Rattle.wh_poly_meaning.specs.Functionals.{Sem}
+use Rattle.wh_poly_meaning.specs.TermValues.{of_interpretations}
 use Rattle.wh_usable.specs.Closed.{ListsRulesOf}
 
 -- the tree is a symbol with arguments for which its type has sorts, and the rest of that type is A (ours)

@@ -7,7 +7,7 @@ use Rattle.wh_terms.specs.Rules.{RewriteRule, IsWellMade}
 use Rattle.wh_pairs.specs.PairData.{PairData}
 use Rattle.wh_pairs.specs.Sets.{IsSetOf}
 use Rattle.wh_pairs.proofs.ByPlace.{some_one, contains_at}
-use Rattle.wh_reduction.specs.TaskData.{task_over}
+use Rattle.wh_reduction_pairs.specs.TaskData.{task_over}
 use Rattle.wh_usable.specs.Closed.{HasSymbol}
 use Rattle.wh_usable_rules.specs.Tables.{Says, Enters}
 use Rattle.wh_usable_rules.specs.Called.{Reaches, from, by_rule, StandsInPairs, AreRulesOfCalled}

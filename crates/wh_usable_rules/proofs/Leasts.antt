@@ -8,8 +8,8 @@ use Rattle.wh_pairs.specs.PairData.{IsIncreasing}
 use Rattle.wh_pairs.proofs.ByPlace.{some_one, contains_at}
 use Rattle.wh_pairs.proofs.Increasing.{increasing_rest, increasing_at}
 use Rattle.wh_pairs.proofs.SetLemmas.{all_from_members}
-use Rattle.wh_reduction.specs.TaskData.{TaskData, CoversAll, numbers_from}
-use Rattle.wh_reduction.proofs.Numbers.{numbers_at}
+use Rattle.wh_reduction_pairs.specs.TaskData.{TaskData, CoversAll, numbers_from}
+use Rattle.wh_reduction_pairs.proofs.Numbers.{numbers_at}
 use Rattle.wh_usable.specs.Closed.{HaveSymbol, ListsRulesOf, ListsRulesInEach, AreClosedRules, AreClosedPairs, IsClosed, IsUsable}
 use Rattle.wh_usable_rules.specs.Called.{from, by_rule, IsCalled, AreRulesOfCalled}
 use Rattle.wh_usable_rules.specs.Least.{covering, IsOnlyWhole}

@@ -4,7 +4,7 @@ use Rattle.wh_terms.specs.Tree.{fun, head, tms_of}
 use Rattle.wh_terms.specs.Rules.{RewriteRule}
 use Rattle.wh_pairs.specs.PairData.{PairData}
 use Rattle.wh_pairs.specs.Sets.{InSet}
-use Rattle.wh_reduction.specs.TaskData.{TaskData}
+use Rattle.wh_reduction_pairs.specs.TaskData.{TaskData}
 use Rattle.wh_usable.specs.Closed.{HasSymbol, HaveSymbol, ListsRulesOf}
 
 -- the symbol is one of which P holds, or it stands in the right side of a rule of such a symbol, and so on

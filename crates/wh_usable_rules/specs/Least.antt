@@ -2,7 +2,7 @@
 use Rattle.std.specs.Prelude.{ℕ, List, Option, Some, None, Contains}
 use Rattle.wh_system.specs.Systems.{SystemData}
 use Rattle.wh_pairs.specs.PairData.{PairData}
-use Rattle.wh_reduction.specs.TaskData.{TaskData, CoversAll, task_over, whole_task}
+use Rattle.wh_reduction_pairs.specs.TaskData.{TaskData, CoversAll, task_over, whole_task}
 use Rattle.wh_usable.specs.Closed.{IsUsable}
 
 -- the set, with these rules to be covered

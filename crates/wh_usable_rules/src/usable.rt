@@ -4,14 +4,14 @@ ghost use Rattle.std.specs.Prelude.{◌<◌, All, IfOk, length};
 ghost use Rattle.wh_system.specs.SystemView.{system_data};
 ghost use Rattle.wh_pairs.specs.PairData.{IsIncreasing};
 ghost use Rattle.wh_pairs.specs.Views.{pairs_data};
-ghost use Rattle.wh_reduction.specs.TaskData.{task_over};
+ghost use Rattle.wh_reduction_pairs.specs.TaskData.{task_over};
 ghost use Rattle.wh_usable_rules.specs.Called.{AreRulesOfCalled};
 ghost use Rattle.wh_usable_rules.specs.Least.{AreUsableRules};
 
 use crate::taking::{call_pairs, numbers_of, take_all};
 use std::alloc::{AllocError, Global};
 use wh_pairs::{PairList, PairSet};
-use wh_reduction::Task;
+use wh_reduction_pairs::Task;
 use wh_system::System;
 use wh_types::Numbers;
 use wh_usable::check_closed;

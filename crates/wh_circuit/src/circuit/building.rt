@@ -11,7 +11,7 @@ ghost use Rattle.wh_sat_trail.specs.Propagation.{Within};
 
 use crate::circuit::{Circuit, Gate};
 use std::alloc::{AllocError, Global};
-use wh_gate_clauses::Wire;
+use wh_circuit_gates::Wire;
 use wh_sat_trail::{Clause, Clauses, Formula};
 
 impl Circuit {

@@ -10,7 +10,7 @@ ghost use Rattle.wh_sat.specs.Solving.{clause_true, literal_true};
 
 use crate::circuit::{Circuit, Gate};
 use std::alloc::AllocError;
-use wh_gate_clauses::{Wire, clauses_of_gate, negations_of};
+use wh_circuit_gates::{Wire, clauses_of_gate, negations_of};
 use wh_sat_trail::Clause;
 
 impl Circuit {

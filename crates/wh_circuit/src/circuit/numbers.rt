@@ -8,7 +8,7 @@ ghost use Rattle.wh_sat.specs.Solving.{literal_true};
 
 use crate::circuit::Circuit;
 use std::alloc::AllocError;
-use wh_gate_clauses::Wire;
+use wh_circuit_gates::Wire;
 
 impl Circuit {
     /// True exactly where the first number is at least the second; they are equally wide. Of width 0 it is true. At

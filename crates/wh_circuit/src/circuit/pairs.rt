@@ -7,7 +7,7 @@ ghost use Rattle.wh_sat.specs.Solving.{literal_true};
 
 use crate::circuit::Circuit;
 use std::alloc::AllocError;
-use wh_gate_clauses::Wire;
+use wh_circuit_gates::Wire;
 
 impl Circuit {
     /// True where both wires are.

@@ -1,7 +1,7 @@
 use Rattle.std.proofs.Common.{◌≡◌, Some, ap, sym, ◌∙◌, subst}
 use Rattle.wh_terms.specs.Tree.{app, head, argument_count}
 use Rattle.wh_terms.specs.Erase.{tm, symbols}
-use Rattle.wh_laws.specs.Ranks.{rank_of}
+use Rattle.wh_step_laws.specs.Ranks.{rank_of}
 use Rattle.wh_access.specs.Readings.{readings, symbol_of}
 use Rattle.wh_access.specs.Answered.{TellsOpen}
 use Rattle.wh_access.proofs.ReadingLemmas.{in_front, in_nothing, in_argument}

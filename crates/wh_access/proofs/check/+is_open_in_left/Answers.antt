@@ -1,7 +1,7 @@
 use Rattle.std.proofs.Common.{◌≡◌, ap, sym, ◌∙◌}
 use Rattle.wh_terms.specs.Tree.{app}
 use Rattle.wh_terms.specs.Erase.{tm, symbols}
-use Rattle.wh_laws.specs.Ranks.{rank_of}
+use Rattle.wh_step_laws.specs.Ranks.{rank_of}
 use Rattle.wh_access.proofs.ReadingLemmas.{left_in_front, left_in_last}
 use Rattle.wh_access.proofs.check.+is_open_in_left.Goals as goal
 

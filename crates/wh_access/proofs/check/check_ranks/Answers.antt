@@ -1,7 +1,7 @@
 use Rattle.std.proofs.Common.{◌≡◌, Some, length, ap, subst, arith}
 use Rattle.std.proofs.lemmas.List.{length-map}
 use Rattle.wh_terms.specs.Erase.{rewrite_rule}
-use Rattle.wh_laws.specs.Ranks.{rank_of}
+use Rattle.wh_step_laws.specs.Ranks.{rank_of}
 use Rattle.wh_system.specs.SystemView.{system_data}
 use Rattle.wh_access.specs.Passing.{EachUsed, Passes}
 use Rattle.wh_access.specs.Answered.{IsFirstIn}

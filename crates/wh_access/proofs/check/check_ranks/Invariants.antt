@@ -1,4 +1,4 @@
-use Rattle.wh_laws.specs.Ranks.{rank_of}
+use Rattle.wh_step_laws.specs.Ranks.{rank_of}
 use Rattle.wh_system.specs.SystemView.{system_data}
 use Rattle.wh_access.specs.Passing.{Passes}
 use Rattle.wh_access.proofs.CheckLemmas.{HoldBefore}

@@ -1,7 +1,7 @@
 use Rattle.std.proofs.Common.{ℕ, ◌<◌}
 use Rattle.wh_terms.specs.Sight.{Occurs}
 use Rattle.wh_terms.specs.Erase.{symbols, tm}
-use Rattle.wh_laws.specs.Ranks.{rank_of}
+use Rattle.wh_step_laws.specs.Ranks.{rank_of}
 use Rattle.wh_access.specs.Passing.{Passes}
 use Rattle.wh_access.proofs.check.first_break.Given as goal
 

@@ -1,5 +1,5 @@
 use Rattle.wh_terms.specs.Erase.{tm, symbols}
-use Rattle.wh_laws.specs.Ranks.{rank_of}
+use Rattle.wh_step_laws.specs.Ranks.{rank_of}
 use Rattle.wh_access.proofs.CheckLemmas.{passes_told}
 use Rattle.wh_access.proofs.check.passes.Goals as goal
 

@@ -1,6 +1,6 @@
 use Rattle.std.proofs.Common.{ap, subst}
 use Rattle.wh_terms.specs.Typing.{Symbols}
-use Rattle.wh_laws.specs.Ranks.{rank_of}
+use Rattle.wh_step_laws.specs.Ranks.{rank_of}
 use Rattle.wh_system.specs.SystemView.{system_data}
 use Rattle.wh_access.specs.Found.{IsCause, IsCycleIn, MeetTold}
 use Rattle.wh_access.proofs.CauseLemmas.{carried}

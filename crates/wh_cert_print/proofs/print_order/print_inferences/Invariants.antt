@@ -1,6 +1,6 @@
 use Rattle.std.proofs.Common.{drop, map}
 use Rattle.wh_text.proofs.PrintLemmas.{Leaves}
-use Rattle.wh_inference.specs.Said.{inference}
+use Rattle.wh_order_inference.specs.Said.{inference}
 use Rattle.wh_cert.specs.Text.{put_all_shown}
 use Rattle.wh_cert_print.proofs.print_order.print_inferences.Given as goal
 

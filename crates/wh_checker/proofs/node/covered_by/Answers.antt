@@ -3,15 +3,15 @@ use Rattle.wh_system.specs.SystemView.{system_data}
 use Rattle.wh_pairs.specs.Views.{pairs_data}
 use Rattle.wh_pairs.specs.Marked.{AreMarked}
 use Rattle.wh_pairs.specs.Sets.{IsSetOf, IsKept}
-use Rattle.wh_reduction.specs.TaskData.{TaskData}
-use Rattle.wh_reduction.specs.ReductionPair.{Evidence}
+use Rattle.wh_reduction_pairs.specs.TaskData.{TaskData}
+use Rattle.wh_reduction_pairs.specs.ReductionPair.{Evidence}
 use Rattle.wh_hopoly.specs.Moves.{Transfer}
 use Rattle.wh_cert.specs.Said.{said_interp}
 use Rattle.wh_polycheck.specs.ReadingsView.{readings_data}
 use Rattle.wh_polycheck.specs.Covering.{IsCovering}
 use Rattle.wh_polycheck.specs.Small.{IsSmall, with_limits}
-use Rattle.wh_covering.specs.CoveringFaults.{IsFirstCoveringFault}
-use Rattle.wh_covering.specs.declared.fault.CoveringFault.{CoveringFault}
+use Rattle.wh_poly_covering.specs.CoveringFaults.{IsFirstCoveringFault}
+use Rattle.wh_poly_covering.specs.declared.fault.CoveringFault.{CoveringFault}
 use Rattle.wh_pairs.specs.PairData.{IsIncreasing}
 use Rattle.wh_usable.specs.Closed.{IsClosed}
 use Rattle.wh_proof.specs.Looked.{covered_rules, poly_task, moves_of}

@@ -3,15 +3,15 @@ use Rattle.wh_system.specs.SystemView.{system_data}
 use Rattle.wh_pairs.specs.Views.{pairs_data}
 use Rattle.wh_pairs.specs.Marked.{AreMarked}
 use Rattle.wh_pairs.specs.Sets.{IsSetOf, IsKept}
-use Rattle.wh_reduction.specs.TaskData.{TaskData, whole_task}
-use Rattle.wh_reduction.specs.ReductionPair.{Evidence}
-use Rattle.wh_inference.specs.Inferences.{Inference}
-use Rattle.wh_inference.specs.Said.{inference}
+use Rattle.wh_reduction_pairs.specs.TaskData.{TaskData, whole_task}
+use Rattle.wh_reduction_pairs.specs.ReductionPair.{Evidence}
+use Rattle.wh_order_inference.specs.Inferences.{Inference}
+use Rattle.wh_order_inference.specs.Said.{inference}
 use Rattle.wh_cert.specs.Said.{said_filter}
-use Rattle.wh_ordering.specs.FilteringView.{filtering_data}
-use Rattle.wh_ordering.specs.Ordering.{IsOrdering}
-use Rattle.wh_orienting.specs.OrderingFaults.{IsFirstOrderingFault}
-use Rattle.wh_orienting.specs.declared.fault.OrderingFault.{OrderingFault}
+use Rattle.wh_order_node.specs.FilteringView.{filtering_data}
+use Rattle.wh_order_node.specs.Ordering.{IsOrdering}
+use Rattle.wh_order_check.specs.OrderingFaults.{IsFirstOrderingFault}
+use Rattle.wh_order_check.specs.declared.fault.OrderingFault.{OrderingFault}
 use Rattle.wh_proof.specs.Looked.{inferences_of}
 use Rattle.wh_proof.proofs.FilterLemmas.{as_many_filters}
 use Rattle.wh_checker.proofs.GoLemmas.{because_says, goes_order, whole_is, inferences_are}

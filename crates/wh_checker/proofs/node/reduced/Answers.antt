@@ -6,9 +6,9 @@ use Rattle.wh_subterm.specs.SubtermRows.{chosen}
 use Rattle.wh_intern.specs.TableTrees.{trees}
 use Rattle.wh_intern.specs.declared.sides.Sides.{Sides}
 use Rattle.wh_cert.specs.Said.{said_arg}
-use Rattle.wh_numbered.specs.NumberedSides.{AreSides}
-use Rattle.wh_numbered.specs.Numberings.{IsNumbering}
-use Rattle.wh_numbered.specs.declared.numbered.Numbered.{Numbered}
+use Rattle.wh_intern_pairs.specs.NumberedSides.{AreSides}
+use Rattle.wh_intern_pairs.specs.Numberings.{IsNumbering}
+use Rattle.wh_intern_pairs.specs.declared.numbered.Numbered.{Numbered}
 use Rattle.wh_checker.proofs.GoLemmas.{subterm_fault}
 use Rattle.wh_checker.proofs.node.reduced.Goals as goal
 

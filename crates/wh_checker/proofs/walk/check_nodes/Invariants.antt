@@ -2,7 +2,7 @@ use Rattle.std.proofs.Common.{map, drop, reverse}
 use Rattle.wh_system.specs.SystemView.{system_data}
 use Rattle.wh_pairs.specs.Views.{pairs_data}
 use Rattle.wh_cert.specs.Said.{said_node}
-use Rattle.wh_numbered.specs.Numberings.{IsNumberingSoFar}
+use Rattle.wh_intern_pairs.specs.Numberings.{IsNumberingSoFar}
 use Rattle.wh_checker.specs.Walk.{HasCome}
 use Rattle.wh_checker.proofs.walk.check_nodes.Given as goal
 

@@ -1,9 +1,9 @@
 use Rattle.std.proofs.Common.{◌∙◌, subst}
 use Rattle.wh_system.specs.SystemView.{system_data}
 use Rattle.wh_pairs.specs.Views.{pairs_data}
-use Rattle.wh_judging.specs.Outcomes.{Shelves, outside, Stands, StandsBySystem, Judged}
-use Rattle.wh_judging.specs.Unread.{CertificateFault}
-use Rattle.wh_judging.proofs.Standing.{carry, certificate_stands, judged_stands}
+use Rattle.wh_top_judging.specs.Outcomes.{Shelves, outside, Stands, StandsBySystem, Judged}
+use Rattle.wh_top_judging.specs.Unread.{CertificateFault}
+use Rattle.wh_top_judging.proofs.Standing.{carry, certificate_stands, judged_stands}
 use Rattle.wh_explain.specs.Meaning.{IsUnweighed}
 use Rattle.wh_explain.proofs.Texts.{carry_cause, means_loop, means_proof, unweighed_certificate, unweighed_system}
 use Rattle.wh_explain.proofs.explain.by_certificate.Goals as goal

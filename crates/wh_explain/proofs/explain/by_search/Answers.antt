@@ -1,7 +1,7 @@
 use Rattle.wh_system.specs.SystemView.{system_data}
 use Rattle.wh_pairs.specs.Views.{pairs_data}
-use Rattle.wh_judging.proofs.Standing.{told_with}
-use Rattle.wh_judging.specs.Outcomes.{Shelves, outside, StandsBySystem}
+use Rattle.wh_top_judging.proofs.Standing.{told_with}
+use Rattle.wh_top_judging.specs.Outcomes.{Shelves, outside, StandsBySystem}
 use Rattle.wh_explain.specs.Meaning.{Finds, IsUnweighed}
 use Rattle.wh_explain.proofs.Texts.{carry_cause, means_loop, means_proof, unweighed_system}
 use Rattle.wh_explain.proofs.explain.by_search.Goals as goal

@@ -2,11 +2,11 @@ use Rattle.std.proofs.Common.{ℕ, List, map, sym, subst, ◌∙◌}
 use Rattle.wh_pairs.specs.PairData.{pair_data}
 use Rattle.wh_pairs.specs.declared.pair.Pair.{Pair}
 use Rattle.wh_system.specs.SystemView.{system_data}
-use Rattle.wh_reduction.specs.TaskData.{task_over}
+use Rattle.wh_reduction_pairs.specs.TaskData.{task_over}
 use Rattle.wh_polycheck.specs.Covering.{HaveTypedSides}
-use Rattle.wh_meaning.proofs.PairSides.{pair_sides}
-use Rattle.wh_guesses.specs.Guesses.{IsSearchTask}
-use Rattle.wh_guesses.proofs.GuessLemmas.{search_task}
+use Rattle.wh_poly_meaning.proofs.PairSides.{pair_sides}
+use Rattle.wh_poly_guesses.specs.Guesses.{IsSearchTask}
+use Rattle.wh_poly_guesses.proofs.GuessLemmas.{search_task}
 use Rattle.wh_explain.proofs.guessed.put_best_guess.Goals as goal
 
 pub put_climbed-requires-clause-task : goal.put_climbed-requires-clause-task

@@ -1,6 +1,6 @@
 use Rattle.std.proofs.Common.{ℕ, ◌+◌, ◌<◌, ◌≤◌, ◌≡◌, List, length, get_or, subst, arith}
-use Rattle.wh_blocking.specs.Sizes.{bits_in, first_of}
-use Rattle.wh_blocking.proofs.BitLemmas.{first_all}
+use Rattle.wh_poly_blocking.specs.Sizes.{bits_in, first_of}
+use Rattle.wh_poly_blocking.proofs.BitLemmas.{first_all}
 use Rattle.wh_find_flat.proofs.find.bits_of.Goals as goal
 
 pub invariant_of-result-clause-count : goal.invariant_of-result-clause-count

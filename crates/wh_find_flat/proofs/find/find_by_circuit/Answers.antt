@@ -2,10 +2,10 @@ use Rattle.std.proofs.Common.{ℕ, ◌≤◌, List, length, map, sym, subst, ◌
 use Rattle.wh_pairs.specs.PairData.{pair_data}
 use Rattle.wh_system.specs.SystemView.{system_data}
 use Rattle.wh_polycheck.specs.Covering.{HaveTypedSides, IsTypedTask}
-use Rattle.wh_meaning.proofs.PairSides.{pair_sides}
+use Rattle.wh_poly_meaning.proofs.PairSides.{pair_sides}
 use Rattle.wh_usable.specs.Closed.{IsUsable}
 use Rattle.wh_proof.specs.Looked.{covered_rules}
-use Rattle.wh_flat.specs.Flat.{IsFlat}
+use Rattle.wh_poly_flat.specs.Flat.{IsFlat}
 use Rattle.wh_find_flat.proofs.Ended.{of_task, plain_task, usable_is}
 use Rattle.wh_find_flat.proofs.find.find_by_circuit.Goals as goal
 

@@ -1,11 +1,11 @@
 use Rattle.std.proofs.Common.{Bool, List, length, sym, subst}
-use Rattle.wh_reduction.specs.TaskData.{TaskData}
-use Rattle.wh_reduction.specs.TaskView.{task_data}
+use Rattle.wh_reduction_pairs.specs.TaskData.{TaskData}
+use Rattle.wh_reduction_pairs.specs.TaskView.{task_data}
 use Rattle.wh_sat.specs.Outcomes.{IsOutcome}
 use Rattle.wh_sat.specs.Solving.{Solves}
-use Rattle.wh_guesses.specs.Conditions.{HasNoInterpretation}
-use Rattle.wh_guesses.proofs.NodeLemmas.{listing_is}
-use Rattle.wh_blocking.specs.Sizes.{value_of}
+use Rattle.wh_poly_guesses.specs.Conditions.{HasNoInterpretation}
+use Rattle.wh_poly_guesses.proofs.NodeLemmas.{listing_is}
+use Rattle.wh_poly_blocking.specs.Sizes.{value_of}
 use Rattle.wh_find_flat.proofs.Flattened.{ready_rule, ready_pair}
 use Rattle.wh_find_flat.specs.Answers.{IsFlatSpent}
 use Rattle.wh_find_flat.proofs.Ended.{formula_is}

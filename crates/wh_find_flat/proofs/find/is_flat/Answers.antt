@@ -1,9 +1,9 @@
 use Rattle.std.proofs.Common.{length, map, sym, ◌∙◌}
 use Rattle.wh_pairs.specs.PairData.{pair_data}
 use Rattle.wh_system.specs.SystemView.{system_data}
-use Rattle.wh_reduction.specs.TaskData.{IsTask}
+use Rattle.wh_reduction_pairs.specs.TaskData.{IsTask}
 use Rattle.wh_proof.specs.Looked.{covered_rules}
-use Rattle.wh_flat.specs.Flat.{IsFlat}
+use Rattle.wh_poly_flat.specs.Flat.{IsFlat}
 use Rattle.wh_find_flat.proofs.Ended.{of_task, plain_task, usable_is}
 use Rattle.wh_find_flat.proofs.find.is_flat.Goals as goal
 

@@ -1,10 +1,10 @@
 use Rattle.std.proofs.Common.{◌≡◌, ℕ, List, map, subst}
 use Rattle.std.specs.Global.{Vec}
-use Rattle.wh_reduction.specs.TaskView.{task_data}
-use Rattle.wh_guesses.specs.Coefficients.{HaveCoefficients}
-use Rattle.wh_guesses.specs.Tasks.{guess_data}
-use Rattle.wh_guesses.specs.Weighing.{WeighsOver}
-use Rattle.wh_blocking.specs.Sizes.{lists_of, value_of}
+use Rattle.wh_reduction_pairs.specs.TaskView.{task_data}
+use Rattle.wh_poly_guesses.specs.Coefficients.{HaveCoefficients}
+use Rattle.wh_poly_guesses.specs.Tasks.{guess_data}
+use Rattle.wh_poly_guesses.specs.Weighing.{WeighsOver}
+use Rattle.wh_poly_blocking.specs.Sizes.{lists_of, value_of}
 use Rattle.wh_find_flat.proofs.Ended.{never_fails}
 use Rattle.wh_find_flat.proofs.find.node_by.Goals as goal
 

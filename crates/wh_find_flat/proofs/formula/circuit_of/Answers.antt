@@ -6,15 +6,15 @@ use Rattle.wh_sat.specs.Solving.{clause_true}
 use Rattle.wh_terms.specs.Rules.{RewriteRule}
 use Rattle.wh_terms.specs.Erase.{rewrite_rules, rewrite_rule}
 use Rattle.wh_pairs.proofs.SetLemmas.{all_from_members}
-use Rattle.wh_reduction.specs.TaskView.{task_data}
+use Rattle.wh_reduction_pairs.specs.TaskView.{task_data}
 use Rattle.wh_pairs.specs.PairData.{pair_data}
 use Rattle.wh_pairs.specs.declared.pair.Pair.{Pair}
-use Rattle.wh_blocking.specs.Sizes.{bits_in}
+use Rattle.wh_poly_blocking.specs.Sizes.{bits_in}
 use Rattle.wh_circuit.specs.State.{gates_of}
 use Rattle.wh_circuit.specs.Gates.{Means}
 use Rattle.wh_sat_trail.specs.Assignment.{AllBelow}
 use Rattle.wh_circuit.specs.declared.circuit.Circuit.{Circuit}
-use Rattle.wh_flat.specs.Flat.{IsListed, all_occurrences, rule_occurrences_at}
+use Rattle.wh_poly_flat.specs.Flat.{IsListed, all_occurrences, rule_occurrences_at}
 use Rattle.wh_find_flat.specs.Numbers.{AreInputs, Asks}
 use Rattle.wh_find_flat.specs.Ready.{AreGreater, PairHolds, RuleHolds}
 use Rattle.wh_find_flat.proofs.Growth.{builds_grown}

@@ -1,6 +1,6 @@
 use Rattle.std.proofs.Common.{◌≡◌, ℕ, ◌+◌, ◌≤◌, List, drop, get_or, length, arith, ap}
 use Rattle.std.proofs.lemmas.List.{drop_more, drop_all}
-use Rattle.wh_flat.specs.Dominance.{place_among}
+use Rattle.wh_poly_flat.specs.Dominance.{place_among}
 use Rattle.wh_find_flat.proofs.Loops.{place_here, place_past}
 use Rattle.wh_find_flat.proofs.formula.place.Goals as goal
 

@@ -1,5 +1,5 @@
 use Rattle.std.proofs.Common.{◌≡◌, ◌+◌, drop}
-use Rattle.wh_flat.specs.Dominance.{place_among}
+use Rattle.wh_poly_flat.specs.Dominance.{place_among}
 use Rattle.wh_find_flat.proofs.formula.place.Given as goal
 
 abbrev pub invariant-loop-place : goal.invariant-loop-place

@@ -7,9 +7,9 @@ use Rattle.wh_terms.specs.declared.term.Term.{Term}
 use Rattle.wh_pairs.specs.PairData.{PairData, pair_data}
 use Rattle.wh_circuit.specs.Gates.{Means}
 use Rattle.wh_circuit.specs.State.{gates_of}
-use Rattle.wh_flat.specs.Flat.{occurrences, pair_occurrences}
-use Rattle.wh_flat.specs.Worth.{IsAtLeast, constant_of}
-use Rattle.wh_flat.proofs.Sides.{spine_occurrences}
+use Rattle.wh_poly_flat.specs.Flat.{occurrences, pair_occurrences}
+use Rattle.wh_poly_flat.specs.Worth.{IsAtLeast, constant_of}
+use Rattle.wh_poly_flat.proofs.Sides.{spine_occurrences}
 use Rattle.wh_find_flat.specs.Lists.{lists_for}
 use Rattle.wh_find_flat.specs.Numbers.{Asks}
 use Rattle.wh_find_flat.specs.Plain.{ArePlainSides, stands_in}

@@ -8,7 +8,7 @@ use Rattle.wh_circuit.specs.State.{gates_of}
 use Rattle.wh_find_flat.specs.Ready.{PairHolds}
 use Rattle.wh_pairs.specs.declared.pair.Pair.{Pair}
 use Rattle.wh_pairs.proofs.ByPlace.{contains_at, remap}
-use Rattle.wh_flat.specs.Flat.{occurrences_at, pair_occurrences}
+use Rattle.wh_poly_flat.specs.Flat.{occurrences_at, pair_occurrences}
 use Rattle.wh_find_flat.specs.Numbers.{Asks}
 use Rattle.wh_find_flat.proofs.Growth.{later_more}
 use Rattle.wh_find_flat.proofs.Loops.{asks_nothing, greater_here, greater_more, pair_asks, sum_all, sum_next}

@@ -2,7 +2,7 @@ use Rattle.std.proofs.Common.{◌≡◌, ℕ, ◌+◌, ◌*◌, ◌<◌, ◌≤�
 use Rattle.wh_sat_trail.specs.declared.literal.Literal.{Literal}
 use Rattle.wh_pairs.specs.PairData.{pair_data}
 use Rattle.wh_circuit.specs.State.{gates_of}
-use Rattle.wh_flat.specs.Flat.{occurrences_at}
+use Rattle.wh_poly_flat.specs.Flat.{occurrences_at}
 use Rattle.wh_find_flat.specs.Numbers.{Asks}
 use Rattle.wh_find_flat.specs.Ready.{PairHolds, TellsGreater}
 use Rattle.wh_find_flat.proofs.formula.require_pairs.Given as goal

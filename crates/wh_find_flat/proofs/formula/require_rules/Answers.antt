@@ -8,7 +8,7 @@ use Rattle.wh_terms.specs.Rules.{RewriteRule}
 use Rattle.wh_terms.specs.declared.rule.Rule.{Rule}
 use Rattle.wh_pairs.proofs.ByPlace.{contains_at, read_map}
 use Rattle.wh_circuit.specs.State.{gates_of}
-use Rattle.wh_flat.specs.Flat.{rule_occurrences, rule_occurrences_at}
+use Rattle.wh_poly_flat.specs.Flat.{rule_occurrences, rule_occurrences_at}
 use Rattle.wh_find_flat.specs.Numbers.{Asks}
 use Rattle.wh_find_flat.specs.Ready.{IsReadyRule, RuleHolds}
 use Rattle.wh_find_flat.proofs.Growth.{later_more}

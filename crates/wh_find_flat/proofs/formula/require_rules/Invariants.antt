@@ -1,7 +1,7 @@
 use Rattle.std.proofs.Common.{ℕ, ◌+◌, ◌*◌, ◌<◌, ◌≤◌, length, take, sum_by}
 use Rattle.wh_terms.specs.Erase.{rewrite_rules}
 use Rattle.wh_circuit.specs.State.{gates_of}
-use Rattle.wh_flat.specs.Flat.{rule_occurrences_at}
+use Rattle.wh_poly_flat.specs.Flat.{rule_occurrences_at}
 use Rattle.wh_find_flat.specs.Numbers.{Asks}
 use Rattle.wh_find_flat.specs.Ready.{RuleHolds}
 use Rattle.wh_find_flat.proofs.formula.require_rules.Given as goal

@@ -4,7 +4,7 @@ use Rattle.wh_terms.specs.declared.term.Term.{Term}
 use Rattle.wh_terms.specs.declared.term.Term.TheVariants.{Meta}
 use Rattle.wh_terms.specs.Erase.{tm}
 use Rattle.wh_circuit.specs.State.{gates_of}
-use Rattle.wh_flat.specs.Flat.{occurrences}
+use Rattle.wh_poly_flat.specs.Flat.{occurrences}
 use Rattle.wh_find_flat.specs.Plain.{IsPlain}
 use Rattle.wh_find_flat.specs.Numbers.{IsValue}
 use Rattle.wh_find_flat.proofs.Applied.{applied_builds, plain_meta, value_later}

@@ -1,8 +1,8 @@
 use Rattle.std.proofs.Common.{ℕ, ◌+◌, ◌-◌, ◌*◌, ◌<◌, ◌≤◌, length}
 use Rattle.wh_terms.specs.Erase.{tm}
 use Rattle.wh_circuit.specs.State.{gates_of}
-use Rattle.wh_flat.specs.Flat.{occurrences}
-use Rattle.wh_flat.specs.Worth.{factor_of}
+use Rattle.wh_poly_flat.specs.Flat.{occurrences}
+use Rattle.wh_poly_flat.specs.Worth.{factor_of}
 use Rattle.wh_find_flat.specs.Lists.{lists_for}
 use Rattle.wh_find_flat.specs.Plain.{standing}
 use Rattle.wh_find_flat.specs.Numbers.{Asks}

@@ -1,7 +1,7 @@
 use Rattle.std.proofs.Common.{ℕ, ◌<◌, ◌≤◌, nat_lt}
 use Rattle.wh_terms.specs.Erase.{tm}
 use Rattle.wh_circuit.specs.State.{gates_of}
-use Rattle.wh_flat.specs.Worth.{IsAtLeast, constant_of, factor_of}
+use Rattle.wh_poly_flat.specs.Worth.{IsAtLeast, constant_of, factor_of}
 use Rattle.wh_find_flat.specs.Lists.{lists_for}
 use Rattle.wh_find_flat.proofs.AskLemmas.{asks_then}
 use Rattle.wh_find_flat.proofs.Growth.{wire_later}

@@ -3,7 +3,7 @@ use Rattle.wh_terms.specs.Erase.{tm}
 use Rattle.wh_circuit.specs.Gates.{Agrees}
 use Rattle.wh_circuit.specs.State.{gates_of}
 use Rattle.wh_circuit.specs.Values.{number_of}
-use Rattle.wh_flat.specs.Flat.{occurrences}
+use Rattle.wh_poly_flat.specs.Flat.{occurrences}
 use Rattle.wh_find_flat.specs.Lists.{lists_for}
 use Rattle.wh_find_flat.specs.Parts.{number_at}
 use Rattle.wh_find_flat.proofs.AskLemmas.{asks_after}

@@ -1,6 +1,6 @@
 use Rattle.std.proofs.Common.{ℕ, ◌<◌, ◌≤◌}
 use Rattle.wh_terms.specs.Erase.{tm}
-use Rattle.wh_flat.specs.Worth.{IsAtLeast, constant_of, factor_of}
+use Rattle.wh_poly_flat.specs.Worth.{IsAtLeast, constant_of, factor_of}
 use Rattle.wh_find_flat.specs.Lists.{lists_for}
 use Rattle.wh_find_flat.proofs.AskLemmas.{asks_then}
 use Rattle.wh_find_flat.proofs.Growth.{on_ok_so}

@@ -1,7 +1,7 @@
 use Rattle.std.proofs.Common.{refl}
 use Rattle.std.proofs.lemmas.Bool.{false≢true}
-use Rattle.wh_reached.specs.Listing.{arrival_of}
-use Rattle.wh_reached.proofs.ListingLemmas.{takes_old, takes_new}
+use Rattle.wh_loop_reached.specs.Listing.{arrival_of}
+use Rattle.wh_loop_reached.proofs.ListingLemmas.{takes_old, takes_new}
 use Rattle.wh_find_loop.proofs.joining.list_if_new.Goals as goal
 
 pub returns-then-is_listed : goal.returns-then-is_listed

@@ -4,9 +4,9 @@ use Rattle.wh_terms.specs.Erase.{tm}
 use Rattle.wh_step.specs.Replay.{Replays}
 use Rattle.wh_system.specs.SystemView.{system_data}
 use Rattle.wh_cert.specs.Said.{said_no}
-use Rattle.wh_loops.specs.Found.{IsLoopCertificate}
-use Rattle.wh_reached.specs.Listing.{tree, LeadTo}
-use Rattle.wh_reached.proofs.ListingLemmas.{replays_push}
+use Rattle.wh_loop_starts.specs.Found.{IsLoopCertificate}
+use Rattle.wh_loop_reached.specs.Listing.{tree, LeadTo}
+use Rattle.wh_loop_reached.proofs.ListingLemmas.{replays_push}
 use Rattle.wh_find_loop.proofs.SpaceLemmas.{start_one}
 use Rattle.wh_find_loop.proofs.search.certify.Goals as goal
 

@@ -4,11 +4,11 @@ use Rattle.wh_terms.specs.Typing.{WellTyped}
 use Rattle.wh_terms.specs.Measures.{Fits, size}
 use Rattle.wh_terms.proofs.Results.{IfOk-map}
 use Rattle.wh_system.specs.Systems.{SystemData}
-use Rattle.wh_loops.specs.Starts.{IsStart}
-use Rattle.wh_find_steps.specs.Reducts.{IsCopyInSpace}
-use Rattle.wh_reached.specs.Listing.{IsListing, IsEntry, IsLinked, Takes, arrival_of}
+use Rattle.wh_loop_starts.specs.Starts.{IsStart}
+use Rattle.wh_loop_steps.specs.Reducts.{IsCopyInSpace}
+use Rattle.wh_loop_reached.specs.Listing.{IsListing, IsEntry, IsLinked, Takes, arrival_of}
 use Rattle.wh_find_loop.specs.Searching.{TakesStart}
-use Rattle.wh_reached.specs.declared.listing.Entry.{Entry}
+use Rattle.wh_loop_reached.specs.declared.listing.Entry.{Entry}
 use Rattle.wh_find_loop.proofs.SearchLemmas.{takes_no_start, start_entry, takes_start}
 use Rattle.wh_find_loop.proofs.search.list_start.Goals as goal
 

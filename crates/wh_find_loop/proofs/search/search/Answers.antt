@@ -1,7 +1,7 @@
 use Rattle.std.proofs.Common.{◌≡◌, ◌+◌, ◌<◌, ◌≤◌, length, ap, subst, arith}
 use Rattle.wh_system.specs.SystemView.{system_data}
 use Rattle.wh_find_loop.specs.Searching.{AreDone, Comes, GoesOn, GoesThrough, ListsStarts}
-use Rattle.wh_reached.proofs.ListingLemmas.{longer}
+use Rattle.wh_loop_reached.proofs.ListingLemmas.{longer}
 use Rattle.wh_find_loop.proofs.SearchLemmas.{empty_listing, higher_listing, below_next, through_none, through_next}
 use Rattle.wh_find_loop.proofs.search.search.Goals as goal
 

@@ -3,10 +3,10 @@ use Rattle.std.proofs.lemmas.List.{map-id}
 use Rattle.std.proofs.lemmas.Iterator.Adapters.{YieldsList-from_vec}
 use Rattle.std.proofs.lemmas.Iterator.Consumers.{YieldsList-end}
 use Rattle.wh_system.specs.SystemView.{system_data}
-use Rattle.wh_find_steps.specs.StepLists.{ListsAllSteps}
-use Rattle.wh_reached.specs.Listing.{tree, IsEntry}
+use Rattle.wh_loop_steps.specs.StepLists.{ListsAllSteps}
+use Rattle.wh_loop_reached.specs.Listing.{tree, IsEntry}
 use Rattle.wh_find_loop.specs.Searching.{Tries, TriesOn}
-use Rattle.wh_reached.proofs.ListingLemmas.{here_at, all_here}
+use Rattle.wh_loop_reached.proofs.ListingLemmas.{here_at, all_here}
 use Rattle.wh_find_loop.proofs.SpaceLemmas.{shut_typed, plain_typed}
 use Rattle.wh_find_loop.proofs.TryLemmas.{entry_space}
 use Rattle.wh_find_loop.proofs.SearchLemmas.{trying_none, trying_next, trying_all}

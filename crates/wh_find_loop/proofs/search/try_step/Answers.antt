@@ -2,12 +2,12 @@ use Rattle.std.proofs.Common.{◌≡◌, ◌<◌, length, Some, slice_get, subst
 use Rattle.std.specs.Prelude.{MatchOption}
 use Rattle.wh_terms.specs.Erase.{tm}
 use Rattle.wh_system.specs.SystemView.{system_data}
-use Rattle.wh_loops.specs.Starts.{IsStart}
-use Rattle.wh_loops.specs.Space.{HoldsInstanceOf}
-use Rattle.wh_loops.specs.Found.{IsInstanceIn}
-use Rattle.wh_find_steps.specs.Reducts.{IsReduct, HasNoReduct, Reduces}
-use Rattle.wh_reached.specs.Listing.{tree, IsEntry}
-use Rattle.wh_reached.proofs.ListingLemmas.{here_at, all_here}
+use Rattle.wh_loop_starts.specs.Starts.{IsStart}
+use Rattle.wh_loop_starts.specs.Space.{HoldsInstanceOf}
+use Rattle.wh_loop_starts.specs.Found.{IsInstanceIn}
+use Rattle.wh_loop_steps.specs.Reducts.{IsReduct, HasNoReduct, Reduces}
+use Rattle.wh_loop_reached.specs.Listing.{tree, IsEntry}
+use Rattle.wh_loop_reached.proofs.ListingLemmas.{here_at, all_here}
 use Rattle.wh_find_loop.proofs.SpaceLemmas.{shut_typed, plain_typed}
 use Rattle.wh_find_loop.proofs.TryLemmas.{start_low, start_is, start_fits, reduct_typed, tries_nothing, next_entry, next_linked, tries_next}
 use Rattle.wh_find_loop.proofs.search.try_step.Goals as goal

@@ -3,7 +3,7 @@ use Rattle.wh_terms.specs.Erase.{tm}
 use Rattle.wh_terms.specs.Typing.{WellTyped}
 use Rattle.wh_terms.specs.declared.term.Term.{Term}
 use Rattle.wh_system.specs.SystemView.{system_data}
-use Rattle.wh_loops.specs.Starts.{IsStart}
+use Rattle.wh_loop_starts.specs.Starts.{IsStart}
 use Rattle.wh_find_loop.proofs.starts.starts_of.Given as goal
 
 abbrev pub invariant-loop-number : goal.invariant-loop-number

@@ -2,11 +2,11 @@ use Rattle.std.proofs.Common.{◌≡◌, ◌+◌, ◌<◌, ℕ, List, [], ◌∷
 use Rattle.std.specs.List.{flat_map}
 use Rattle.std.proofs.lemmas.Option.{slice_get_read}
 use Rattle.wh_sat_trail.specs.declared.literal.Literal.{Literal}
-use Rattle.wh_blocking.specs.Literals.{literals_on}
-use Rattle.wh_blocking.specs.Sizes.{value_of}
-use Rattle.wh_blocking.proofs.EncodingLemmas.{condition_within}
-use Rattle.wh_blocking.proofs.LiteralLemmas.{clause_same}
-use Rattle.wh_guesses.proofs.OkLemmas.{ok_as}
+use Rattle.wh_poly_blocking.specs.Literals.{literals_on}
+use Rattle.wh_poly_blocking.specs.Sizes.{value_of}
+use Rattle.wh_poly_blocking.proofs.EncodingLemmas.{condition_within}
+use Rattle.wh_poly_blocking.proofs.LiteralLemmas.{clause_same}
+use Rattle.wh_poly_guesses.proofs.OkLemmas.{ok_as}
 use Rattle.wh_find_order.specs.Encodings.{task_in, ShutsOut}
 use Rattle.wh_find_order.specs.Tried.{proper, line}
 use Rattle.wh_find_order.proofs.SearchLemmas.{numbers_within, symbol_used, line_used, shuts_out}

@@ -1,8 +1,8 @@
 use Rattle.std.proofs.Common.{sym, subst}
-use Rattle.wh_ordering.specs.FilteringView.{filtering_data}
-use Rattle.wh_ordering.specs.declared.filters.Filters.{Filters}
-use Rattle.wh_blocking.specs.Sizes.{value_of}
-use Rattle.wh_guesses.proofs.ToldLemmas.{matched_because}
+use Rattle.wh_order_node.specs.FilteringView.{filtering_data}
+use Rattle.wh_order_node.specs.declared.filters.Filters.{Filters}
+use Rattle.wh_poly_blocking.specs.Sizes.{value_of}
+use Rattle.wh_poly_guesses.proofs.ToldLemmas.{matched_because}
 use Rattle.wh_order_space.specs.Bits.{IsWritten}
 use Rattle.wh_find_order.specs.Encodings.{HasNoFilter, task_in}
 use Rattle.wh_find_order.proofs.DecodingLemmas.{tried_is}

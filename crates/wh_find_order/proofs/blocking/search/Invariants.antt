@@ -1,7 +1,7 @@
 use Rattle.std.proofs.Common.{◌≡◌, ◌+◌, ◌<◌, length}
 use Rattle.wh_sat.specs.Solving.{Solves}
 use Rattle.wh_sat.specs.State.{clauses_of}
-use Rattle.wh_blocking.specs.Sizes.{value_of}
+use Rattle.wh_poly_blocking.specs.Sizes.{value_of}
 use Rattle.wh_find_order.specs.Encodings.{IsBlocking}
 use Rattle.wh_find_order.proofs.blocking.search.Given as goal
 

@@ -3,9 +3,9 @@ use Rattle.std.proofs.lemmas.List.{get_or_default}
 use Rattle.wh_types.specs.Erase.{tys}
 use Rattle.wh_types.specs.declared.simple_type.SimpleType.{SimpleType}
 use Rattle.wh_pairs.proofs.ByPlace.{read}
-use Rattle.wh_inference.specs.Said.{written_filter}
-use Rattle.wh_inference.specs.declared.filter.Filter.{Filter}
-use Rattle.wh_blocking.specs.Sizes.{value_of}
+use Rattle.wh_order_inference.specs.Said.{written_filter}
+use Rattle.wh_order_inference.specs.declared.filter.Filter.{Filter}
+use Rattle.wh_poly_blocking.specs.Sizes.{value_of}
 use Rattle.wh_order_lines.proofs.Matched.{matched_some, matched_none}
 use Rattle.wh_order_space.specs.Bits.{filter_by}
 use Rattle.wh_find_order.specs.Encodings.{PicksSort}

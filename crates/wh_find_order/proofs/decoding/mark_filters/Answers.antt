@@ -1,11 +1,11 @@
 use Rattle.std.proofs.Common.{◌+◌, ◌<◌, ◌≤◌, ◌++◌, ◌∷◌, [], List, length, map, get_or, ap, sym, ◌∙◌, arith}
 use Rattle.std.proofs.lemmas.List.{length-map, length_push, take_more, take_all}
-use Rattle.wh_inference.specs.FilterText.{WrittenFilter}
-use Rattle.wh_inference.specs.Said.{written_filter}
-use Rattle.wh_inference.specs.declared.filter.Filter.{Filter}
-use Rattle.wh_ordering.specs.declared.filters.MarkFilter.{MarkFilter}
+use Rattle.wh_order_inference.specs.FilterText.{WrittenFilter}
+use Rattle.wh_order_inference.specs.Said.{written_filter}
+use Rattle.wh_order_inference.specs.declared.filter.Filter.{Filter}
+use Rattle.wh_order_node.specs.declared.filters.MarkFilter.{MarkFilter}
 use Rattle.wh_pairs.proofs.ListLemmas.{map_push}
-use Rattle.wh_blocking.specs.Sizes.{value_of}
+use Rattle.wh_poly_blocking.specs.Sizes.{value_of}
 use Rattle.wh_order_lines.proofs.Matched.{matched_some, matched_none}
 use Rattle.wh_order_space.specs.Bits.{IsFilterBy}
 use Rattle.wh_find_order.specs.Encodings.{task_in, symbols_in, scopes_for}

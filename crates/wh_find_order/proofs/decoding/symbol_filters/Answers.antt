@@ -1,10 +1,10 @@
 use Rattle.std.proofs.Common.{◌+◌, ◌<◌, length, map, ap, ◌∙◌, arith}
 use Rattle.std.proofs.lemmas.List.{length-map, length_push}
-use Rattle.wh_inference.specs.FilterText.{WrittenFilter}
-use Rattle.wh_inference.specs.Said.{written_filter}
-use Rattle.wh_inference.specs.declared.filter.Filter.{Filter}
+use Rattle.wh_order_inference.specs.FilterText.{WrittenFilter}
+use Rattle.wh_order_inference.specs.Said.{written_filter}
+use Rattle.wh_order_inference.specs.declared.filter.Filter.{Filter}
 use Rattle.wh_pairs.proofs.ListLemmas.{map_push}
-use Rattle.wh_blocking.specs.Sizes.{value_of}
+use Rattle.wh_poly_blocking.specs.Sizes.{value_of}
 use Rattle.wh_order_lines.proofs.Matched.{matched_some, matched_none}
 use Rattle.wh_order_space.specs.Bits.{IsFilterBy}
 use Rattle.wh_find_order.specs.Encodings.{task_in, scopes_for}

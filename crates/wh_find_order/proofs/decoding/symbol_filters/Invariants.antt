@@ -1,6 +1,6 @@
 use Rattle.std.proofs.Common.{◌≡◌, length, map}
-use Rattle.wh_inference.specs.Said.{written_filter}
-use Rattle.wh_blocking.specs.Sizes.{value_of}
+use Rattle.wh_order_inference.specs.Said.{written_filter}
+use Rattle.wh_poly_blocking.specs.Sizes.{value_of}
 use Rattle.wh_find_order.specs.Encodings.{AreFiltersFrom}
 use Rattle.wh_find_order.proofs.decoding.symbol_filters.Given as goal
 

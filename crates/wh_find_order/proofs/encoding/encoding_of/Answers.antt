@@ -1,8 +1,8 @@
 use Rattle.std.proofs.Common.{◌≡◌, ◌+◌, ◌-◌, ◌<◌, ◌≤◌, ℕ, List, length, get_or, ap, refl, subst, arith, ◌∙◌}
 use Rattle.std.specs.Global.{Vec}
 use Rattle.wh_types.specs.declared.simple_type.SimpleType.{SimpleType}
-use Rattle.wh_guesses.specs.declared.uses.Uses.{Uses}
-use Rattle.wh_blocking.specs.Numbers.{AreNumbers}
+use Rattle.wh_poly_guesses.specs.declared.uses.Uses.{Uses}
+use Rattle.wh_poly_blocking.specs.Numbers.{AreNumbers}
 use Rattle.wh_order_space.specs.Bits.{binary_length, first_bit}
 use Rattle.wh_order_space.specs.Spotted.{types_in}
 use Rattle.wh_find_order.proofs.TableLemmas.{encoding_is}

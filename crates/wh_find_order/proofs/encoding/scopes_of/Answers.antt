@@ -1,6 +1,6 @@
 use Rattle.std.proofs.Common.{ap, ◌∙◌}
 use Rattle.wh_types.specs.Erase.{tys}
-use Rattle.wh_reduction.specs.TaskView.{task_data}
+use Rattle.wh_reduction_pairs.specs.TaskView.{task_data}
 use Rattle.wh_find_order.proofs.TableLemmas.{scopes_are}
 use Rattle.wh_find_order.proofs.encoding.scopes_of.Goals as goal
 

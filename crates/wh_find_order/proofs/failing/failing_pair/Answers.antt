@@ -1,4 +1,4 @@
-use Rattle.wh_ordering.specs.FilteringView.{filtering_data}
+use Rattle.wh_order_node.specs.FilteringView.{filtering_data}
 use Rattle.wh_find_order.specs.Encodings.{task_in}
 use Rattle.wh_find_order.proofs.NodeLemmas.{pair_fails}
 use Rattle.wh_find_order.proofs.SearchLemmas.{typed_calls}

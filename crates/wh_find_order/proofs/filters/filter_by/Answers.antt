@@ -1,6 +1,6 @@
 use Rattle.std.proofs.Common.{◌≡◌, ◌==◌, ◌<◌, true, false, List, ℕ, length, get_or, ap, sym, ◌∙◌, arith, tests}
 use Rattle.std.proofs.lemmas.List.{get_or_default}
-use Rattle.wh_blocking.specs.Sizes.{value_of}
+use Rattle.wh_poly_blocking.specs.Sizes.{value_of}
 use Rattle.wh_find_order.proofs.BitLemmas.{keeps_by, picks_by, none_by}
 use Rattle.wh_find_order.proofs.filters.filter_by.Goals.{else-is_empty-2-via-then-is_empty-2+else-as_slice-eq1, else-is_empty-2-via-else-is_empty-2}
 use Rattle.wh_find_order.proofs.filters.filter_by.Goals as goal

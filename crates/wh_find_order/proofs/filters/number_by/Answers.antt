@@ -1,5 +1,5 @@
 use Rattle.std.proofs.Common.{◌≡◌, ◌+◌, ◌-◌, ◌*◌, ◌<◌, if◌then◌else◌, refl, ap, sym, ◌∙◌, arith}
-use Rattle.wh_blocking.specs.Sizes.{value_of}
+use Rattle.wh_poly_blocking.specs.Sizes.{value_of}
 use Rattle.wh_order_space.specs.Bits.{number_from}
 use Rattle.wh_find_order.proofs.BitLemmas.{number_start, number_small, number_put, number_end}
 use Rattle.wh_find_order.proofs.filters.number_by.Goals.{then-bit, else-bit}

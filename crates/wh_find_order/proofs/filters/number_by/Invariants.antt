@@ -1,5 +1,5 @@
 use Rattle.std.proofs.Common.{◌≡◌, ◌+◌, ◌-◌, ◌≤◌}
-use Rattle.wh_blocking.specs.Sizes.{value_of}
+use Rattle.wh_poly_blocking.specs.Sizes.{value_of}
 use Rattle.wh_order_space.specs.Bits.{number_from}
 use Rattle.wh_find_order.proofs.filters.number_by.Given as goal
 

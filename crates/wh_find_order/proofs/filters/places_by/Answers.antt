@@ -1,5 +1,5 @@
 use Rattle.std.proofs.Common.{◌≡◌, ◌+◌, ◌-◌, ◌++◌, ℕ, List, suc, ap, sym, subst, ◌∙◌}
-use Rattle.wh_blocking.specs.Sizes.{value_of}
+use Rattle.wh_poly_blocking.specs.Sizes.{value_of}
 use Rattle.wh_order_space.specs.Bits.{places_from}
 use Rattle.wh_find_order.proofs.BitLemmas.{places_start, places_put, places_pass, places_end}
 use Rattle.wh_find_order.proofs.filters.places_by.Goals.{then-bit+in_ok-push, else-bit}

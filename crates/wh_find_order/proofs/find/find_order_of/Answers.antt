@@ -1,7 +1,7 @@
 use Rattle.std.proofs.Common.{subst}
 use Rattle.wh_system.specs.SystemView.{system_data}
-use Rattle.wh_reduction.specs.TaskView.{task_data}
-use Rattle.wh_reduction.specs.declared.task.Task.{Task}
+use Rattle.wh_reduction_pairs.specs.TaskView.{task_data}
+use Rattle.wh_reduction_pairs.specs.declared.task.Task.{Task}
 use Rattle.wh_find_order.specs.Answers.{IsAnswer}
 use Rattle.wh_find_order.proofs.find.find_order_of.Goals as goal
 

@@ -1,12 +1,12 @@
 use Rattle.std.proofs.Common.{ℕ, ◌+◌, ◌≤◌, List, length, map, ap, sym, subst, ◌∙◌, arith}
 use Rattle.std.proofs.lemmas.Option.{slice_get_within}
-use Rattle.wh_reduction.specs.TaskView.{task_data}
-use Rattle.wh_inference.specs.Said.{inference}
-use Rattle.wh_inference.specs.declared.inference.Inference.{Inference}
-use Rattle.wh_ordering.specs.FilteringView.{filtering_data}
+use Rattle.wh_reduction_pairs.specs.TaskView.{task_data}
+use Rattle.wh_order_inference.specs.Said.{inference}
+use Rattle.wh_order_inference.specs.declared.inference.Inference.{Inference}
+use Rattle.wh_order_node.specs.FilteringView.{filtering_data}
 use Rattle.wh_order_lines.specs.OrderWalks.{AreRuleLines, IsFailingPair, IsFailingRule}
-use Rattle.wh_guesses.proofs.EmptyLemmas.{empty_list}
-use Rattle.wh_guesses.proofs.ToldLemmas.{matched_because}
+use Rattle.wh_poly_guesses.proofs.EmptyLemmas.{empty_list}
+use Rattle.wh_poly_guesses.proofs.ToldLemmas.{matched_because}
 use Rattle.wh_find_order.specs.Trials.{Fails}
 use Rattle.wh_find_order.proofs.NodeLemmas.{rule_fails, pair_fails, set_fails}
 use Rattle.wh_find_order.proofs.SearchLemmas.{typed_calls}

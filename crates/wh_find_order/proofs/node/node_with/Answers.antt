@@ -3,17 +3,17 @@ use Rattle.std.proofs.lemmas.List.{length-map}
 use Rattle.wh_system.specs.SystemView.{system_data}
 use Rattle.wh_pairs.specs.PairData.{pair_data}
 use Rattle.wh_pairs.proofs.ListLemmas.{map-map}
-use Rattle.wh_reduction.specs.TaskData.{TaskData, IsTask}
-use Rattle.wh_reduction.specs.TaskView.{task_data}
-use Rattle.wh_inference.specs.Said.{inference, written_filter}
-use Rattle.wh_ordering.specs.FilteringView.{filtering_data}
-use Rattle.wh_ordering.specs.declared.filters.MarkFilter.{MarkFilter}
+use Rattle.wh_reduction_pairs.specs.TaskData.{TaskData, IsTask}
+use Rattle.wh_reduction_pairs.specs.TaskView.{task_data}
+use Rattle.wh_order_inference.specs.Said.{inference, written_filter}
+use Rattle.wh_order_node.specs.FilteringView.{filtering_data}
+use Rattle.wh_order_node.specs.declared.filters.MarkFilter.{MarkFilter}
 use Rattle.wh_order.specs.TreeSides.{AreFilters}
 use Rattle.wh_cert.specs.Said.{said_filter}
 use Rattle.wh_cert.specs.declared.order_node.NamedFilter.{NamedFilter}
 use Rattle.wh_proof.specs.Looked.{SayFilters, SayMarkFilters}
 use Rattle.wh_proof.proofs.FilterLemmas.{filters_read, mark_filters_read}
-use Rattle.wh_guesses.proofs.NodeLemmas.{whole_is}
+use Rattle.wh_poly_guesses.proofs.NodeLemmas.{whole_is}
 use Rattle.wh_order_lines.specs.OrderWalks.{AreRuleLines, ArePairLines}
 use Rattle.wh_find_order.specs.Trials.{IsTried}
 use Rattle.wh_find_order.proofs.NodeLemmas.{order_found}

@@ -1,6 +1,6 @@
 use Rattle.std.proofs.Common.{◌≡◌, ◌++◌, map}
 use Rattle.std.specs.List.{range_with_len}
-use Rattle.wh_parts.specs.Erase.{rfun}
+use Rattle.wh_system_parts.specs.Erase.{rfun}
 use Rattle.wh_gen.specs.RawFamily.{raw_base, raw_map_fun}
 use Rattle.wh_gen.proofs.declarations.funs.Given as goal
 

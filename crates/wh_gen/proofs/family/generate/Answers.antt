@@ -1,6 +1,6 @@
 use Rattle.std.proofs.Common.{◌≡◌, Some, arith, rules}
-use Rattle.wh_parts.specs.Erase.{rparts}
-use Rattle.wh_parts.specs.RuleTests.{refusal}
+use Rattle.wh_system_parts.specs.Erase.{rparts}
+use Rattle.wh_system_parts.specs.RuleTests.{refusal}
 use Rattle.wh_system.specs.SystemView.{system_data}
 use Rattle.wh_gen.proofs.FamilySystem.{are_proper, are_passed, say_family}
 use Rattle.wh_gen.proofs.family.generate.Goals as goal

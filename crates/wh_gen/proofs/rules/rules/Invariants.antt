@@ -1,5 +1,5 @@
 use Rattle.std.proofs.Common.{◌≡◌, map}
-use Rattle.wh_parts.specs.Erase.{rrule}
+use Rattle.wh_system_parts.specs.Erase.{rrule}
 use Rattle.wh_gen.specs.RawFamily.{raw_rules}
 use Rattle.wh_gen.proofs.rules.rules.Given as goal
 

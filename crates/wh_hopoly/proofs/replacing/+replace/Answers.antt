@@ -9,8 +9,8 @@ use Rattle.wh_poly.specs.Excesses.{ExceedsAs}
 use Rattle.wh_hopoly.specs.Evaluation.{one, down, replace, replace_factors, replace_arguments, applied}
 use Rattle.wh_hopoly.specs.Outcomes.{ComesTo, ComesToArguments, PassesLimit}
 use Rattle.wh_hopoly.specs.Scopes.{scope_of}
-use Rattle.wh_arithmetic.specs.Growing.{grown, HasRoom}
-use Rattle.wh_arithmetic.specs.Totals.{total}
+use Rattle.wh_poly_arithmetic.specs.Growing.{grown, HasRoom}
+use Rattle.wh_poly_arithmetic.specs.Totals.{total}
 use Rattle.wh_hopoly.specs.Replacements.{head_of, head_by, replace_factor, product_with, apply_at, value_at, Replaces}
 use Rattle.wh_poly.specs.declared.polynomial.Monomial.{out-Monomial}
 use Rattle.wh_poly.specs.declared.polynomial.Atom.{out-Atom}
@@ -20,7 +20,7 @@ use Rattle.wh_poly.proofs.FaultLaws.{ok_so, done_so, because_so, passed_on}
 use Rattle.wh_poly.proofs.OrderedLaws.{normal_ordered}
 use Rattle.wh_hopoly.proofs.NormalWalk.{one_type, not_past}
 use Rattle.wh_hopoly.proofs.RenumberLaws.{moved_by}
-use Rattle.wh_arithmetic.proofs.RoomLaws.{room_is_within}
+use Rattle.wh_poly_arithmetic.proofs.RoomLaws.{room_is_within}
 use Rattle.wh_hopoly.proofs.ReplacingLaws as laws
 use Rattle.wh_hopoly.proofs.replacing.+replace.Goals as goal
 

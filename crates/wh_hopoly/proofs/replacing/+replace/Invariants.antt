@@ -8,7 +8,7 @@ use Rattle.wh_hopoly.specs.Scopes.{scope_of}
 use Rattle.wh_hopoly.specs.Replacements.{head_of, replace_factor, apply_at, Keeps}
 use Rattle.wh_poly.specs.declared.polynomial.Atom.{out-Atom}
 use Rattle.wh_poly.specs.Erase.{poly, atoms, polys, list}
-use Rattle.wh_arithmetic.specs.Growing.{grown, HasRoom}
+use Rattle.wh_poly_arithmetic.specs.Growing.{grown, HasRoom}
 use Rattle.wh_hopoly.proofs.ReplacingLaws.{Summing, Multiplying, Passing, Applying}
 use Rattle.wh_hopoly.proofs.replacing.+replace.Given as goal
 

@@ -7,15 +7,15 @@ use Rattle.wh_poly.specs.Limits.{Exceeds}
 use Rattle.wh_poly.specs.Excesses.{ExceedsAs}
 use Rattle.wh_hopoly.specs.Evaluation.{one}
 use Rattle.wh_hopoly.specs.Outcomes.{ComesTo, PassesLimit}
-use Rattle.wh_arithmetic.specs.Growing.{grown, HasRoom}
+use Rattle.wh_poly_arithmetic.specs.Growing.{grown, HasRoom}
 use Rattle.wh_hopoly.specs.Replacements.{product_with, value_at, Keeps}
 use Rattle.wh_poly.specs.Erase.{poly}
-use Rattle.wh_arithmetic.specs.declared.growing.Growing.{Growing}
+use Rattle.wh_poly_arithmetic.specs.declared.growing.Growing.{Growing}
 use Rattle.wh_poly.specs.declared.polynomial.Poly.{Poly}
 use Rattle.wh_hopoly.specs.declared.replacing.Replacement.{Replacement}
 use Rattle.wh_hopoly.specs.declared.replacing.Place.{Place}
 use Rattle.wh_poly.proofs.FaultLaws.{done_so, because_so, passed_on}
-use Rattle.wh_arithmetic.proofs.RoomLaws.{room_is_within}
+use Rattle.wh_poly_arithmetic.proofs.RoomLaws.{room_is_within}
 use Rattle.wh_hopoly.proofs.ReplacingLaws as laws
 use Rattle.wh_hopoly.proofs.replacing.multiply_by_raised.Goals as goal
 

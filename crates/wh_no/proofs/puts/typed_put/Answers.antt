@@ -6,7 +6,7 @@ use Rattle.wh_terms.specs.Erase.{tm}
 use Rattle.wh_terms.specs.Typing.{Typed}
 use Rattle.wh_text.specs.Erase.{rtm}
 use Rattle.wh_cert.specs.Said.{said_put}
-use Rattle.wh_making.specs.Resolve.{Means}
+use Rattle.wh_system_making.specs.Resolve.{Means}
 use Rattle.wh_system.specs.SystemView.{system_data}
 use Rattle.wh_no.proofs.PutLemmas.{put_said}
 use Rattle.wh_no.proofs.puts.typed_put.Goals as goal

@@ -1,5 +1,5 @@
 use Rattle.std.proofs.Common.{[], arith}
-use Rattle.wh_inference.specs.Said.{inferences}
+use Rattle.wh_order_inference.specs.Said.{inferences}
 use Rattle.wh_order.proofs.GoalLemmas.{stand_none}
 use Rattle.wh_order.proofs.AskedGoals.{left_no_application, right_no_application, applications_with_place, applications_of_counts, applications_of_heads, applications_not_strict, applications_goals}
 use Rattle.wh_order.proofs.asked.by_arguments.Goals as goal

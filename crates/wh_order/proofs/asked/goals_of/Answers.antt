@@ -1,7 +1,7 @@
 use Rattle.std.proofs.Common.{length}
 use Rattle.std.proofs.lemmas.Result.{IfOk-weaker}
-use Rattle.wh_inference.specs.Said.{letter, inferences}
-use Rattle.wh_ordering.specs.FilteringView.{filtering_data}
+use Rattle.wh_order_inference.specs.Said.{letter, inferences}
+use Rattle.wh_order_node.specs.FilteringView.{filtering_data}
 use Rattle.wh_order.specs.Precedences.{order_of}
 use Rattle.wh_order.proofs.AskedGoals.{goals_at_least, goals_greater, goals_above}
 use Rattle.wh_order.proofs.asked.goals_of.Goals as goal

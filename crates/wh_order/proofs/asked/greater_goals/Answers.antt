@@ -1,8 +1,8 @@
 use Rattle.std.proofs.Common.{ap, length}
 use Rattle.std.proofs.lemmas.Result.{IfOk-weaker}
-use Rattle.wh_inference.specs.Inferences.{bodies, arguments}
-use Rattle.wh_inference.specs.Said.{letter, inferences}
-use Rattle.wh_ordering.specs.FilteringView.{filtering_data}
+use Rattle.wh_order_inference.specs.Inferences.{bodies, arguments}
+use Rattle.wh_order_inference.specs.Said.{letter, inferences}
+use Rattle.wh_order_node.specs.FilteringView.{filtering_data}
 use Rattle.wh_order.specs.Precedences.{order_of}
 use Rattle.wh_order.proofs.AskedGoals.{letters_same, greater_by_above, other_letter}
 use Rattle.wh_order.proofs.asked.greater_goals.Goals as goal

@@ -1,6 +1,6 @@
 use Rattle.std.proofs.Common.{◌≡◌, drop}
-use Rattle.wh_inference.specs.Said.{inferences}
-use Rattle.wh_path_order.specs.Verdict.{some_strict}
+use Rattle.wh_order_inference.specs.Said.{inferences}
+use Rattle.wh_order_path.specs.Verdict.{some_strict}
 use Rattle.wh_order.proofs.asked.is_some_strict.Given as goal
 
 abbrev pub invariant-loop-part : goal.invariant-loop-part

@@ -1,6 +1,6 @@
 use Rattle.std.proofs.Common.{Some, length}
-use Rattle.wh_inference.specs.Said.{letter, inferences}
-use Rattle.wh_ordering.specs.FilteringView.{filtering_data}
+use Rattle.wh_order_inference.specs.Said.{letter, inferences}
+use Rattle.wh_order_node.specs.FilteringView.{filtering_data}
 use Rattle.wh_order.specs.Precedences.{order_of}
 use Rattle.wh_order.proofs.AskedGoals.{one_type_goals, two_types, no_goals}
 use Rattle.wh_order.proofs.asked.typed_goals.Goals as goal

@@ -1,6 +1,6 @@
 use Rattle.std.proofs.Common.{◌-◌, ◌∙◌, subst, sym, arith}
 use Rattle.std.proofs.lemmas.Bool.{le-ltb}
-use Rattle.wh_trees.specs.declared.tree.Tree.{Tree}
+use Rattle.wh_order_trees.specs.declared.tree.Tree.{Tree}
 use Rattle.wh_order.proofs.BelowLemmas.{IsBelow, below_lam, below_none, below_meta_is, below_other_number, below_too_few, below_other, IsNeither}
 use Rattle.wh_order.proofs.below.+is_meta_below.Goals as goal
 

@@ -1,10 +1,10 @@
 use Rattle.std.proofs.Common.{◌<◌, Option, length, map, ap, subst, refl, arith}
 use Rattle.std.specs.Global.{Vec}
-use Rattle.wh_inference.specs.Inferences.{entries, all_entries}
-use Rattle.wh_inference.specs.Said.{letter, inference, inferences}
-use Rattle.wh_inference.specs.declared.inference.Inference.{out-Inference}
-use Rattle.wh_path_order.specs.Verdict.{verdict, verdicts}
-use Rattle.wh_ordering.specs.FilteringView.{filtering_data}
+use Rattle.wh_order_inference.specs.Inferences.{entries, all_entries}
+use Rattle.wh_order_inference.specs.Said.{letter, inference, inferences}
+use Rattle.wh_order_inference.specs.declared.inference.Inference.{out-Inference}
+use Rattle.wh_order_path.specs.Verdict.{verdict, verdicts}
+use Rattle.wh_order_node.specs.FilteringView.{filtering_data}
 use Rattle.wh_order.specs.declared.goals.Goal.{Goal}
 use Rattle.wh_order.specs.BadNumber.{number_of_bad}
 use Rattle.wh_order.specs.Precedences.{order_of}

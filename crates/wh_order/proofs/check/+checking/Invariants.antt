@@ -1,8 +1,8 @@
 use Rattle.std.proofs.Common.{◌+◌, ◌*◌, length}
-use Rattle.wh_inference.specs.Inferences.{entries, all_entries}
-use Rattle.wh_inference.specs.Said.{inference, inferences}
-use Rattle.wh_ordering.specs.FilteringView.{filtering_data}
-use Rattle.wh_trees.specs.TreeParts.{World}
+use Rattle.wh_order_inference.specs.Inferences.{entries, all_entries}
+use Rattle.wh_order_inference.specs.Said.{inference, inferences}
+use Rattle.wh_order_node.specs.FilteringView.{filtering_data}
+use Rattle.wh_order_trees.specs.TreeParts.{World}
 use Rattle.wh_order.specs.Precedences.{order_of}
 use Rattle.wh_order.specs.Claims.{AreGoalsOver}
 use Rattle.wh_order.proofs.CheckLemmas.{RestOf}

@@ -1,5 +1,5 @@
 use Rattle.std.proofs.Common.{None}
-use Rattle.wh_ordering.specs.FilteringView.{filtering_data}
+use Rattle.wh_order_node.specs.FilteringView.{filtering_data}
 use Rattle.wh_order.proofs.LineLemmas.{line_judged, line_bad}
 use Rattle.wh_order.proofs.check.check_inference.Goals as goal
 

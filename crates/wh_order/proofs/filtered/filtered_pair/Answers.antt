@@ -5,10 +5,10 @@ use Rattle.wh_terms.specs.Measures.{size}
 use Rattle.wh_system.specs.SystemView.{system_data}
 use Rattle.wh_pairs.specs.PairData.{pair_data}
 use Rattle.wh_polycheck.specs.Marks.{head_of_side}
-use Rattle.wh_ordering.specs.FilteringView.{filtering_data}
-use Rattle.wh_ordering.specs.Ordering.{IsNarrow}
-use Rattle.wh_sides.specs.PairSides.{AreWholeArguments, list_of_side}
-use Rattle.wh_sides.proofs.BuildLemmas.{passed_on}
+use Rattle.wh_order_node.specs.FilteringView.{filtering_data}
+use Rattle.wh_order_node.specs.Ordering.{IsNarrow}
+use Rattle.wh_order_sides.specs.PairSides.{AreWholeArguments, list_of_side}
+use Rattle.wh_order_sides.proofs.BuildLemmas.{passed_on}
 use Rattle.wh_order.specs.TreeSides.{IsTreeOfCall, extended_pair_side}
 use Rattle.wh_order.proofs.FilteredLemmas.{pair_sifted}
 use Rattle.wh_order.proofs.filtered.filtered_pair.Goals as goal

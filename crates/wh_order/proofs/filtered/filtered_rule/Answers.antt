@@ -4,11 +4,11 @@ use Rattle.wh_terms.specs.Measures.{size}
 use Rattle.wh_system.specs.CanonicalView.{side_of}
 use Rattle.wh_system.specs.SystemView.{system_data}
 use Rattle.wh_pairs.proofs.ByPlace.{contains_at}
-use Rattle.wh_extended.specs.ExtendedSides.{extended_side}
-use Rattle.wh_ordering.specs.FilteringView.{filtering_data}
-use Rattle.wh_ordering.specs.Ordering.{IsNarrow}
-use Rattle.wh_sides.specs.RuleSides.{IsWideSide}
-use Rattle.wh_sides.proofs.BuildLemmas.{passed_on}
+use Rattle.wh_order_extended.specs.ExtendedSides.{extended_side}
+use Rattle.wh_order_node.specs.FilteringView.{filtering_data}
+use Rattle.wh_order_node.specs.Ordering.{IsNarrow}
+use Rattle.wh_order_sides.specs.RuleSides.{IsWideSide}
+use Rattle.wh_order_sides.proofs.BuildLemmas.{passed_on}
 use Rattle.wh_order.specs.TreeSides.{IsTreeOfSide}
 use Rattle.wh_order.proofs.FilteredLemmas.{rule_sifted}
 use Rattle.wh_order.proofs.filtered.filtered_rule.Goals as goal

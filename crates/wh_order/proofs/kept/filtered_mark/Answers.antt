@@ -1,9 +1,9 @@
 use Rattle.std.proofs.Common.{List, reverse, ◌+◌, map, ap, subst, sym, ◌∙◌}
-use Rattle.wh_inference.specs.Said.{written_filter}
-use Rattle.wh_ordering.specs.declared.filters.MarkFilter.{MarkFilter}
-use Rattle.wh_ordering.specs.FilteringView.{mark_filter}
-use Rattle.wh_ordering.specs.Filterings.{mark_among}
-use Rattle.wh_trees.specs.declared.tree.Tree.{Mark}
+use Rattle.wh_order_inference.specs.Said.{written_filter}
+use Rattle.wh_order_node.specs.declared.filters.MarkFilter.{MarkFilter}
+use Rattle.wh_order_node.specs.FilteringView.{mark_filter}
+use Rattle.wh_order_node.specs.Filterings.{mark_among}
+use Rattle.wh_order_trees.specs.declared.tree.Tree.{Mark}
 use Rattle.wh_order.specs.Kept.{IsFiltered}
 use Rattle.wh_order.proofs.KeptLemmas.{mark_given, mark_kept, instead_kept, mark_alone, mark_next, mark_end}
 use Rattle.wh_order.proofs.kept.filtered_mark.Goals as goal

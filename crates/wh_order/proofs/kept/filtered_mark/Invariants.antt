@@ -1,6 +1,6 @@
 use Rattle.std.proofs.Common.{◌≡◌, drop, map}
-use Rattle.wh_ordering.specs.FilteringView.{mark_filter}
-use Rattle.wh_ordering.specs.Filterings.{mark_among}
+use Rattle.wh_order_node.specs.FilteringView.{mark_filter}
+use Rattle.wh_order_node.specs.Filterings.{mark_among}
 use Rattle.wh_order.proofs.kept.filtered_mark.Given as goal
 
 abbrev pub invariant-loop-mark : goal.invariant-loop-mark

@@ -1,8 +1,8 @@
 use Rattle.std.proofs.Common.{reverse, length, map, subst, sym}
-use Rattle.wh_inference.specs.FilterText.{filter_of}
-use Rattle.wh_inference.specs.Said.{written_filter}
-use Rattle.wh_ordering.specs.Filterings.{IsProperAsWritten}
-use Rattle.wh_trees.specs.declared.tree.Tree.{Sym}
+use Rattle.wh_order_inference.specs.FilterText.{filter_of}
+use Rattle.wh_order_inference.specs.Said.{written_filter}
+use Rattle.wh_order_node.specs.Filterings.{IsProperAsWritten}
+use Rattle.wh_order_trees.specs.declared.tree.Tree.{Sym}
 use Rattle.wh_order.specs.Kept.{IsFiltered}
 use Rattle.wh_order.proofs.KeptLemmas.{no_filter, symbol_given, symbol_kept, instead_kept}
 use Rattle.wh_order.proofs.kept.filtered_symbol.Goals as goal

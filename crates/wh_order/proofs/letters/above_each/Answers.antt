@@ -1,7 +1,7 @@
 use Rattle.std.proofs.Common.{List, [], sym, subst}
 use Rattle.wh_terms.specs.Tree.{Tm}
-use Rattle.wh_path_order.specs.Verdict.{above, each}
-use Rattle.wh_trees.specs.Trees.{tree}
+use Rattle.wh_order_path.specs.Verdict.{above, each}
+use Rattle.wh_order_trees.specs.Trees.{tree}
 use Rattle.wh_order.specs.Claims.{StandFor}
 use Rattle.wh_order.proofs.GoalLemmas.{stand_none}
 use Rattle.wh_order.proofs.letters.above_each.Goals as goal

@@ -1,8 +1,8 @@
 use Rattle.std.proofs.Common.{ap, length}
 use Rattle.std.proofs.lemmas.Result.{IfOk-weaker}
-use Rattle.wh_inference.specs.Inferences.{part, lower, first_less, spine_parts, body, variable, meta_part}
-use Rattle.wh_inference.specs.Said.{letter}
-use Rattle.wh_ordering.specs.FilteringView.{filtering_data}
+use Rattle.wh_order_inference.specs.Inferences.{part, lower, first_less, spine_parts, body, variable, meta_part}
+use Rattle.wh_order_inference.specs.Said.{letter}
+use Rattle.wh_order_node.specs.FilteringView.{filtering_data}
 use Rattle.wh_order.specs.Precedences.{order_of}
 use Rattle.wh_order.proofs.SymbolGoals.{symbol_above, above_unheaded}
 use Rattle.wh_order.proofs.letters.above_goals.Goals as goal

@@ -1,5 +1,5 @@
 use Rattle.std.proofs.lemmas.Result.{IfOk-weaker}
-use Rattle.wh_ordering.specs.FilteringView.{filtering_data}
+use Rattle.wh_order_node.specs.FilteringView.{filtering_data}
 use Rattle.wh_order.proofs.SymbolGoals.{less_refused, less_unheaded, less_by_place}
 use Rattle.wh_order.proofs.letters.by_first_less.Goals as goal
 

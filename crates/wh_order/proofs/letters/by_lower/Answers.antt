@@ -1,6 +1,6 @@
 use Rattle.std.proofs.Common.{arith}
 use Rattle.std.proofs.lemmas.Result.{IfOk-weaker}
-use Rattle.wh_ordering.specs.FilteringView.{filtering_data}
+use Rattle.wh_order_node.specs.FilteringView.{filtering_data}
 use Rattle.wh_order.proofs.SymbolGoals.{lower_refused, lower_unheaded, lower_goals}
 use Rattle.wh_order.proofs.letters.by_lower.Goals as goal
 

@@ -1,9 +1,9 @@
 use Rattle.std.proofs.lemmas.Result.{IfOk-weaker}
 use Rattle.wh_terms.specs.Tree.{head}
-use Rattle.wh_inference.specs.Inferences.{part}
-use Rattle.wh_trees.specs.Trees.{tree}
+use Rattle.wh_order_inference.specs.Inferences.{part}
+use Rattle.wh_order_trees.specs.Trees.{tree}
 use Rattle.std.proofs.Common.{[], ◌∷◌}
-use Rattle.wh_path_order.specs.Verdict.{at_least}
+use Rattle.wh_order_path.specs.Verdict.{at_least}
 use Rattle.wh_order.proofs.LetterTasks.{part_none, part_some}
 use Rattle.wh_order.proofs.LetterLemmas.{asks_nothing, asks}
 use Rattle.wh_order.proofs.letters.by_part.Goals as goal

@@ -1,6 +1,6 @@
 use Rattle.std.proofs.Common.{[], ◌∷◌, arith}
-use Rattle.wh_path_order.specs.Verdict.{above}
-use Rattle.wh_trees.specs.Trees.{tree}
+use Rattle.wh_order_path.specs.Verdict.{above}
+use Rattle.wh_order_trees.specs.Trees.{tree}
 use Rattle.wh_order.proofs.GoalLemmas.{stand_one}
 use Rattle.wh_order.proofs.SymbolGoals.{spine_refused, spine_goals}
 use Rattle.wh_order.proofs.letters.by_spine.Goals as goal

@@ -1,7 +1,7 @@
 use Rattle.std.proofs.Common.{[], ◌∙◌, arith}
 use Rattle.wh_terms.specs.Tree.{head}
-use Rattle.wh_inference.specs.Inferences.{variable}
-use Rattle.wh_trees.specs.Trees.{tree}
+use Rattle.wh_order_inference.specs.Inferences.{variable}
+use Rattle.wh_order_trees.specs.Trees.{tree}
 use Rattle.wh_order.proofs.GoalLemmas.{stand_none}
 use Rattle.wh_order.proofs.LetterTasks.{variable_none, variable_place, variable_low, variable_high, variable_is}
 use Rattle.wh_order.proofs.LetterLemmas.{asks_nothing, asks}

@@ -1,6 +1,6 @@
 use Rattle.std.proofs.Common.{◌≡◌, ◌+◌, ◌-◌, [], ◌∷◌, arith}
-use Rattle.wh_path_order.specs.Verdict.{greater}
-use Rattle.wh_trees.specs.Trees.{tree}
+use Rattle.wh_order_path.specs.Verdict.{greater}
+use Rattle.wh_order_trees.specs.Trees.{tree}
 use Rattle.wh_order.proofs.GoalLemmas.{stand_one}
 use Rattle.wh_order.proofs.SymbolGoals.{less_short, less_short_other, less_differs, less_goals}
 use Rattle.wh_order.proofs.letters.less_at.Goals as goal

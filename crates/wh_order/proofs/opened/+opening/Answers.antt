@@ -1,10 +1,10 @@
 use Rattle.std.proofs.lemmas.Result.{IfOk-weaker}
-use Rattle.wh_trees.specs.declared.tree.Tree.TheVariants.{Free}
+use Rattle.wh_order_trees.specs.declared.tree.Tree.TheVariants.{Free}
 use Rattle.std.proofs.Common.{ℕ, ◌+◌, List, subst, sym, ap, refl, ◌∙◌}
 use Rattle.wh_types.specs.Erase.{ty}
-use Rattle.wh_trees.specs.declared.tree.Tree.{Tree}
-use Rattle.wh_trees.specs.Trees.{tree, IsHeadTree}
-use Rattle.wh_trees.specs.TreeParts.{Over, AllOver}
+use Rattle.wh_order_trees.specs.declared.tree.Tree.{Tree}
+use Rattle.wh_order_trees.specs.Trees.{tree, IsHeadTree}
+use Rattle.wh_order_trees.specs.TreeParts.{Over, AllOver}
 use Rattle.wh_order.proofs.OpenLemmas.{opens, OpensAll, variable_opens, free_opens, meta_opens, meta_keeps, sym_opens, sym_keeps, mark_opens, mark_keeps, lam_opens, lam_keeps, apply_opens, apply_keeps, opens_next, opens_all, keeps_next}
 use Rattle.wh_order.proofs.opened.+opening.Goals as goal
 

@@ -1,7 +1,7 @@
 use Rattle.std.proofs.Common.{◌∙◌}
 use Rattle.std.proofs.lemmas.Result.{IfOk-weaker}
 use Rattle.wh_types.specs.Erase.{ty}
-use Rattle.wh_trees.specs.Trees.{tree}
+use Rattle.wh_order_trees.specs.Trees.{tree}
 use Rattle.wh_order.proofs.OpenLemmas.{opens_top}
 use Rattle.wh_order.proofs.opened.open_tree.Goals as goal
 

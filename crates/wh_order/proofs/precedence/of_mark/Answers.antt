@@ -1,8 +1,8 @@
 use Rattle.std.proofs.Common.{◌≡◌, List, map, refl, ap, sym, ◌∙◌, rules, tests}
-use Rattle.wh_extended.specs.Filtered.{precedence}
-use Rattle.wh_ordering.specs.declared.filters.MarkFilter.{MarkFilter}
-use Rattle.wh_ordering.specs.FilteringView.{mark_filter}
-use Rattle.wh_ordering.specs.Filterings.{mark_among}
+use Rattle.wh_order_extended.specs.Filtered.{precedence}
+use Rattle.wh_order_node.specs.declared.filters.MarkFilter.{MarkFilter}
+use Rattle.wh_order_node.specs.FilteringView.{mark_filter}
+use Rattle.wh_order_node.specs.Filterings.{mark_among}
 use Rattle.wh_order.proofs.PrecedenceLemmas.{mark_here, mark_next, mark_end}
 use Rattle.wh_order.proofs.precedence.of_mark.Goals as goal
 

@@ -1,8 +1,8 @@
 use Rattle.std.proofs.Common.{List, map, ap, sym, ◌∙◌}
-use Rattle.wh_inference.specs.declared.filter.Filter.{Filter}
-use Rattle.wh_inference.specs.Said.{written_filter}
-use Rattle.wh_extended.specs.Filtered.{precedence}
-use Rattle.wh_ordering.specs.Filterings.{filter_among}
+use Rattle.wh_order_inference.specs.declared.filter.Filter.{Filter}
+use Rattle.wh_order_inference.specs.Said.{written_filter}
+use Rattle.wh_order_extended.specs.Filtered.{precedence}
+use Rattle.wh_order_node.specs.Filterings.{filter_among}
 use Rattle.wh_order.proofs.PrecedenceLemmas.{filter_read, filter_past}
 use Rattle.wh_order.proofs.precedence.of_symbol.Goals as goal
 

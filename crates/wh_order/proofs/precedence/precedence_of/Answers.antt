@@ -1,6 +1,6 @@
 use Rattle.std.proofs.Common.{subst, sym}
-use Rattle.wh_ordering.specs.FilteringView.{filtering_data}
-use Rattle.wh_trees.proofs.PartLemmas.{IsOtherTree}
+use Rattle.wh_order_node.specs.FilteringView.{filtering_data}
+use Rattle.wh_order_trees.proofs.PartLemmas.{IsOtherTree}
 use Rattle.wh_order.proofs.PrecedenceLemmas.{symbol_order, mark_order, no_order}
 use Rattle.wh_order.proofs.precedence.precedence_of.Goals as goal
 

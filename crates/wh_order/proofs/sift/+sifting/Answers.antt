@@ -4,10 +4,10 @@ use Rattle.wh_types.specs.Erase.{ty}
 use Rattle.wh_terms.specs.Tree.{free, lam}
 use Rattle.wh_terms.specs.Erase.{declared_metas, tm}
 use Rattle.wh_terms.proofs.TermLemmas.{tm_of_meta}
-use Rattle.wh_ordering.specs.FilteringView.{filtering_data}
-use Rattle.wh_trees.specs.declared.tree.Tree.{Lam}
-use Rattle.wh_trees.specs.declared.tree.Tree.TheVariants.{Bound, Free}
-use Rattle.wh_trees.specs.Trees.{tree}
+use Rattle.wh_order_node.specs.FilteringView.{filtering_data}
+use Rattle.wh_order_trees.specs.declared.tree.Tree.{Lam}
+use Rattle.wh_order_trees.specs.declared.tree.Tree.TheVariants.{Bound, Free}
+use Rattle.wh_order_trees.specs.Trees.{tree}
 use Rattle.wh_order.proofs.SiftLemmas.{bound_sifted, free_sifted, lam_sifted, meta_sifted, app_sifted, fun_sifted, inner_sifted, behind_sifted, sifted_next, sifted_all}
 use Rattle.wh_order.proofs.sift.+sifting.Goals as goal
 

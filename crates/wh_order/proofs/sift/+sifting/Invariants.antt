@@ -1,6 +1,6 @@
 use Rattle.std.proofs.Common.{map, take}
 use Rattle.wh_terms.specs.Erase.{declared_metas, tm}
-use Rattle.wh_ordering.specs.FilteringView.{filtering_data}
+use Rattle.wh_order_node.specs.FilteringView.{filtering_data}
 use Rattle.wh_order.specs.Sifted.{AreSifted}
 use Rattle.wh_order.proofs.sift.+sifting.Given as goal
 

@@ -1,7 +1,7 @@
 use Rattle.std.proofs.Common.{List, IfOk, reverse, subst}
 use Rattle.wh_terms.specs.Erase.{declared_metas, tm}
-use Rattle.wh_ordering.specs.FilteringView.{filtering_data}
-use Rattle.wh_trees.specs.declared.tree.Tree.{Tree}
+use Rattle.wh_order_node.specs.FilteringView.{filtering_data}
+use Rattle.wh_order_trees.specs.declared.tree.Tree.{Tree}
 use Rattle.wh_order.specs.Sifted.{IsSifted}
 use Rattle.wh_order.proofs.sift.sift.Goals as goal
 

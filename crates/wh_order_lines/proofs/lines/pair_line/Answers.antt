@@ -2,9 +2,9 @@ use Rattle.std.proofs.Common.{Bool, true, false}
 use Rattle.std.proofs.lemmas.Result.{IfOk-weaker}
 use Rattle.wh_pairs.specs.PairData.{pair_data}
 use Rattle.wh_system.specs.SystemView.{system_data}
-use Rattle.wh_ordering.specs.FilteringView.{filtering_data}
-use Rattle.wh_ordering.specs.Ordering.{IsNarrow}
-use Rattle.wh_trees.specs.declared.tree.Tree.{Tree}
+use Rattle.wh_order_node.specs.FilteringView.{filtering_data}
+use Rattle.wh_order_node.specs.Ordering.{IsNarrow}
+use Rattle.wh_order_trees.specs.declared.tree.Tree.{Tree}
 use Rattle.wh_order.specs.TreeSides.{IsTreeOfCall, extended_pair_side}
 use Rattle.wh_order_lines.proofs.Matched.{matched_some, matched_none}
 use Rattle.wh_order_lines.proofs.OrderLineLemmas.{pair_between}

@@ -2,10 +2,10 @@ use Rattle.std.proofs.Common.{Bool, true, false}
 use Rattle.std.proofs.lemmas.Result.{IfOk-weaker}
 use Rattle.wh_system.specs.CanonicalView.{side_of}
 use Rattle.wh_system.specs.SystemView.{system_data}
-use Rattle.wh_extended.specs.ExtendedSides.{extended_side}
-use Rattle.wh_ordering.specs.FilteringView.{filtering_data}
-use Rattle.wh_ordering.specs.Ordering.{IsNarrow}
-use Rattle.wh_trees.specs.declared.tree.Tree.{Tree}
+use Rattle.wh_order_extended.specs.ExtendedSides.{extended_side}
+use Rattle.wh_order_node.specs.FilteringView.{filtering_data}
+use Rattle.wh_order_node.specs.Ordering.{IsNarrow}
+use Rattle.wh_order_trees.specs.declared.tree.Tree.{Tree}
 use Rattle.wh_order.specs.TreeSides.{IsTreeOfSide}
 use Rattle.wh_order_lines.proofs.Matched.{matched_some, matched_none}
 use Rattle.wh_order_lines.proofs.OrderLineLemmas.{rule_found}

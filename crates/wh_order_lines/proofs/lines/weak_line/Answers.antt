@@ -1,8 +1,8 @@
 use Rattle.std.proofs.Common.{Option, subst}
-use Rattle.wh_inference.specs.declared.inference.Inference.{Inference}
-use Rattle.wh_path_order.specs.Verdict.{at_least}
-use Rattle.wh_ordering.specs.FilteringView.{filtering_data}
-use Rattle.wh_infer.specs.Lines.{IsFound}
+use Rattle.wh_order_inference.specs.declared.inference.Inference.{Inference}
+use Rattle.wh_order_path.specs.Verdict.{at_least}
+use Rattle.wh_order_node.specs.FilteringView.{filtering_data}
+use Rattle.wh_order_infer.specs.Lines.{IsFound}
 use Rattle.wh_order_lines.proofs.lines.weak_line.Goals as goal
 
 pub returns-in-Some : goal.returns-in-Some

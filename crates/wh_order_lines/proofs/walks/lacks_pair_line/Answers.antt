@@ -2,10 +2,10 @@ use Rattle.std.proofs.Common.{◌≡◌, get_or, subst}
 use Rattle.std.specs.Prelude.{slice_get, Some}
 use Rattle.wh_pairs.specs.PairData.{PairData, pair_data}
 use Rattle.wh_pairs.proofs.ByPlace.{number_at, contains_at, some_one}
-use Rattle.wh_reduction.specs.TaskView.{task_data}
-use Rattle.wh_reduction.proofs.TaskLemmas.{pair_at}
-use Rattle.wh_inference.specs.Said.{inference}
-use Rattle.wh_ordering.specs.FilteringView.{filtering_data}
+use Rattle.wh_reduction_pairs.specs.TaskView.{task_data}
+use Rattle.wh_reduction_pairs.proofs.TaskLemmas.{pair_at}
+use Rattle.wh_order_inference.specs.Said.{inference}
+use Rattle.wh_order_node.specs.FilteringView.{filtering_data}
 use Rattle.wh_order_lines.proofs.Matched.{told_missing}
 use Rattle.wh_order_lines.specs.Oriented.{MeetsPair}
 use Rattle.wh_order_lines.specs.OrderLines.{IsAnyPairLine}

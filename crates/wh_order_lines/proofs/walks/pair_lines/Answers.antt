@@ -1,9 +1,9 @@
 use Rattle.std.proofs.Common.{◌≡◌, ◌+◌, ℕ, List, length, get_or, sym, subst, ◌∙◌, arith}
 use Rattle.wh_pairs.specs.PairData.{pair_data}
 use Rattle.wh_pairs.proofs.ByPlace.{number_at, contains_at}
-use Rattle.wh_reduction.specs.TaskView.{task_data}
-use Rattle.wh_reduction.proofs.TaskLemmas.{pair_at}
-use Rattle.wh_ordering.specs.FilteringView.{filtering_data}
+use Rattle.wh_reduction_pairs.specs.TaskView.{task_data}
+use Rattle.wh_reduction_pairs.proofs.TaskLemmas.{pair_at}
+use Rattle.wh_order_node.specs.FilteringView.{filtering_data}
 use Rattle.wh_order_lines.proofs.Matched.{matched_some, matched_none}
 use Rattle.wh_order_lines.specs.Oriented.{MeetsPair}
 use Rattle.wh_order_lines.specs.OrderLines.{IsPairLine}

@@ -1,5 +1,5 @@
-use Rattle.wh_reduction.specs.TaskView.{task_data}
-use Rattle.wh_ordering.specs.FilteringView.{filtering_data}
+use Rattle.wh_reduction_pairs.specs.TaskView.{task_data}
+use Rattle.wh_order_node.specs.FilteringView.{filtering_data}
 use Rattle.wh_order_lines.proofs.WalkLemmas.{HasPairLines}
 use Rattle.wh_order_lines.proofs.walks.pair_lines.Given as goal
 

@@ -1,9 +1,9 @@
 use Rattle.std.proofs.Common.{◌≡◌, length, get_or, arith}
 use Rattle.wh_pairs.proofs.ByPlace.{number_at}
-use Rattle.wh_reduction.specs.TaskView.{task_data}
-use Rattle.wh_inference.specs.Said.{inference}
-use Rattle.wh_ordering.specs.FilteringView.{filtering_data}
-use Rattle.wh_covering.proofs.Walks.{some_at}
+use Rattle.wh_reduction_pairs.specs.TaskView.{task_data}
+use Rattle.wh_order_inference.specs.Said.{inference}
+use Rattle.wh_order_node.specs.FilteringView.{filtering_data}
+use Rattle.wh_poly_covering.proofs.Walks.{some_at}
 use Rattle.wh_order_lines.proofs.Matched.{matched_some, matched_none}
 use Rattle.wh_order_lines.specs.Oriented.{MeetsRule}
 use Rattle.wh_order_lines.specs.OrderLines.{IsRuleLine}

@@ -1,7 +1,7 @@
 use Rattle.std.proofs.Common.{◌≡◌, ◌+◌, length, ap₂, refl, subst, ◌∙◌, arith}
-use Rattle.wh_reduction.specs.TaskView.{task_data}
-use Rattle.wh_guesses.specs.Coefficients.{scopes_of}
-use Rattle.wh_meeting.specs.Meeting.{IsMeeting}
+use Rattle.wh_reduction_pairs.specs.TaskView.{task_data}
+use Rattle.wh_poly_guesses.specs.Coefficients.{scopes_of}
+use Rattle.wh_order_meeting.specs.Meeting.{IsMeeting}
 use Rattle.wh_order_space.specs.Circuited.{IsDemandOfSet}
 use Rattle.wh_order_space.specs.Spotted.{AreSpotted}
 use Rattle.wh_order_space.proofs.NothingLemmas.{has_no_order}

@@ -1,6 +1,6 @@
 use Rattle.std.proofs.Common.{get_or, arith}
 use Rattle.wh_pairs.specs.PairData.{pair_data}
-use Rattle.wh_reduction.specs.TaskView.{task_data}
+use Rattle.wh_reduction_pairs.specs.TaskView.{task_data}
 use Rattle.wh_order_space.proofs.SideLemmas.{between_pair, pair_there}
 use Rattle.wh_order_space.proofs.sides.demand_of_pair.Goals as goal
 

@@ -1,5 +1,5 @@
 use Rattle.std.proofs.Common.{get_or, refl}
-use Rattle.wh_reduction.specs.TaskView.{task_data}
+use Rattle.wh_reduction_pairs.specs.TaskView.{task_data}
 use Rattle.wh_order_space.proofs.SideLemmas.{set_none, set_pair}
 use Rattle.wh_order_space.proofs.sides.demand_of_pairs.Goals as goal
 

@@ -1,6 +1,6 @@
 use Rattle.std.proofs.Common.{◌≡◌, length, ap, ◌∙◌, sym, arith}
 use Rattle.wh_terms.specs.Erase.{rewrite_rule}
-use Rattle.wh_reduction.specs.TaskView.{task_data}
+use Rattle.wh_reduction_pairs.specs.TaskView.{task_data}
 use Rattle.wh_order_space.proofs.SideLemmas.{between_rule, mapped_length}
 use Rattle.wh_order_space.proofs.sides.demand_of_rule.Goals as goal
 

@@ -1,4 +1,4 @@
-use Rattle.wh_reduction.specs.TaskView.{task_data}
+use Rattle.wh_reduction_pairs.specs.TaskView.{task_data}
 use Rattle.wh_order_space.proofs.SideLemmas.{set_both, set_orders, set_told}
 use Rattle.wh_order_space.proofs.sides.demand_of_set.Goals as goal
 

@@ -1,5 +1,5 @@
 use Rattle.std.proofs.Common.{get_or, refl}
-use Rattle.wh_reduction.specs.TaskView.{task_data}
+use Rattle.wh_reduction_pairs.specs.TaskView.{task_data}
 use Rattle.wh_order_space.proofs.SideLemmas.{some_none, some_pair, some_all}
 use Rattle.wh_order_space.proofs.sides.demand_of_some.Goals as goal
 

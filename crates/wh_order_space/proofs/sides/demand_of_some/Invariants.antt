@@ -1,4 +1,4 @@
-use Rattle.wh_reduction.specs.TaskView.{task_data}
+use Rattle.wh_reduction_pairs.specs.TaskView.{task_data}
 use Rattle.wh_order_space.specs.Circuited.{IsDemandOfSome}
 use Rattle.wh_order_space.proofs.sides.demand_of_some.Given as goal
 

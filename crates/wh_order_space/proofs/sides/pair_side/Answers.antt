@@ -3,7 +3,7 @@ use Rattle.wh_terms.specs.Tree.{fun, spine}
 use Rattle.wh_system.specs.SystemView.{system_data}
 use Rattle.wh_pairs.specs.PairData.{pair_data}
 use Rattle.wh_polycheck.specs.Marks.{head_of_side}
-use Rattle.wh_extended.specs.ExtendedSides.{marked_number}
+use Rattle.wh_order_extended.specs.ExtendedSides.{marked_number}
 use Rattle.wh_order_space.proofs.sides.pair_side.Goals as goal
 
 pub returns-in_ok-made-in-Ok : goal.returns-in_ok-made-in-Ok

@@ -1,6 +1,6 @@
 use Rattle.std.proofs.Common.{◌≡◌, ◌++◌, [], ◌∷◌, List, Option, length, arith, ap, sym, subst}
 use Rattle.std.proofs.lemmas.List.{length_push}
-use Rattle.wh_demands.specs.declared.view.Spot.{Spot}
+use Rattle.wh_order_demands.specs.declared.view.Spot.{Spot}
 use Rattle.wh_order_space.specs.Spotted.{AreSpotted, IsNumber}
 use Rattle.wh_order_space.proofs.SpotLemmas.{spotted_more}
 use Rattle.wh_order_space.proofs.spots.add_spots.Goals as goal

@@ -1,5 +1,5 @@
 use Rattle.std.proofs.Common.{◌≡◌, ℕ, List, map, subst, sym, ◌∙◌}
-use Rattle.wh_inference.specs.Said.{written_filter}
+use Rattle.wh_order_inference.specs.Said.{written_filter}
 use Rattle.wh_system.specs.SystemView.{system_data}
 use Rattle.wh_proof.proofs.FilterLemmas.{filters_read, filters_unread}
 use Rattle.wh_proof.proofs.filters.filters_of_symbols.Goals as goal

@@ -1,6 +1,6 @@
 use Rattle.std.proofs.Common.{◌≡◌, ◌<◌, ◌++◌, ◌∷◌, [], length, Some, slice_get, ap₂, sym, ◌∙◌, arith}
 use Rattle.std.proofs.lemmas.Option.{slice_get-get_or}
-use Rattle.wh_inference.specs.Said.{written_filter}
+use Rattle.wh_order_inference.specs.Said.{written_filter}
 use Rattle.wh_pairs.proofs.ListLemmas.{map_push, map_take}
 use Rattle.wh_proof.proofs.filters.lines_of_mark_filters.Goals as goal
 

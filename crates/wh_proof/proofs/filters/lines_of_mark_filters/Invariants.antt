@@ -1,5 +1,5 @@
 use Rattle.std.proofs.Common.{◌≡◌, map, take, Some, slice_get}
-use Rattle.wh_inference.specs.Said.{written_filter}
+use Rattle.wh_order_inference.specs.Said.{written_filter}
 use Rattle.wh_proof.proofs.filters.lines_of_mark_filters.Given as goal
 
 abbrev pub invariant-loop-mark : goal.invariant-loop-mark

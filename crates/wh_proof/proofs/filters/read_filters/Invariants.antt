@@ -1,5 +1,5 @@
 use Rattle.std.proofs.Common.{◌≡◌, map, take}
-use Rattle.wh_inference.specs.Said.{written_filter}
+use Rattle.wh_order_inference.specs.Said.{written_filter}
 use Rattle.wh_proof.proofs.filters.read_filters.Given as goal
 
 abbrev pub invariant-loop-line : goal.invariant-loop-line

@@ -9,8 +9,8 @@ use Rattle.wh_pairs.specs.Sets.{IsKept, IsSetOf}
 use Rattle.wh_find_subterm.specs.Found.{IsAnswer}
 use Rattle.wh_prover.proofs.ArriveLemmas.{arrives_within}
 use Rattle.wh_prover.proofs.LimitLemmas.{choices_named, choices_low}
-use Rattle.wh_numbered.specs.Numberings.{IsNumbering}
-use Rattle.wh_numbered.specs.declared.numbered.Numbered.{Numbered}
+use Rattle.wh_intern_pairs.specs.Numberings.{IsNumbering}
+use Rattle.wh_intern_pairs.specs.declared.numbered.Numbered.{Numbered}
 use Rattle.wh_prover.proofs.NodeLemmas.{adds_subterm, borrowed}
 use Rattle.wh_prover.proofs.WalkLemmas.{said_push}
 use Rattle.wh_proof.proofs.BlockLemmas.{reverse_push}

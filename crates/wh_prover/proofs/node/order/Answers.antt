@@ -3,7 +3,7 @@ use Rattle.std.proofs.lemmas.List.{length-map}
 use Rattle.wh_system.specs.SystemView.{system_data}
 use Rattle.wh_pairs.specs.PairData.{pair_data}
 use Rattle.wh_pairs.specs.Views.{pairs_data}
-use Rattle.wh_inference.specs.Said.{inference}
+use Rattle.wh_order_inference.specs.Said.{inference}
 use Rattle.wh_cert.specs.Said.{said_node, said_filter, said_order}
 use Rattle.wh_cert.specs.declared.certificate.Node.TheVariants as code
 use Rattle.wh_cert.specs.declared.order_node.OrderNode.{OrderNode}

@@ -9,7 +9,7 @@ use Rattle.wh_pairs.specs.declared.pair.Pair.{Pair}
 use Rattle.wh_pairs.specs.Views.{pairs_data}
 use Rattle.wh_pairs.specs.Sets.{IsSetOf}
 use Rattle.wh_cert.specs.Said.{said_node, said_yes}
-use Rattle.wh_versions.specs.Certificates.{IsCertificateOf}
+use Rattle.wh_cert_versions.specs.Certificates.{IsCertificateOf}
 use Rattle.wh_prover.proofs.ProofLemmas.{proof_of_tree}
 use Rattle.wh_prover.proofs.search.prove_under.Goals as goal
 

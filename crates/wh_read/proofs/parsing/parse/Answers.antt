@@ -1,7 +1,7 @@
 use Rattle.wh_text.specs.declared.token.TokenKind.TheVariants.{Name}
 use Rattle.wh_text.specs.declared.token.Token.{Token}
-use Rattle.wh_parts.specs.Erase.{rparts}
-use Rattle.wh_parts.specs.declared.parts.Parts.{Parts}
+use Rattle.wh_system_parts.specs.Erase.{rparts}
+use Rattle.wh_system_parts.specs.declared.parts.Parts.{Parts}
 use Rattle.wh_read.specs.declared.place.Place.{Place}
 use Rattle.wh_read.specs.Spelled.{placed}
 use Rattle.wh_read.specs.Parsing.{Parses}

@@ -1,5 +1,5 @@
 use Rattle.std.proofs.Common.{◌≡◌, take}
-use Rattle.wh_parts.specs.Erase.{rparts}
+use Rattle.wh_system_parts.specs.Erase.{rparts}
 use Rattle.wh_read.specs.SyntaxFaults.{letters}
 use Rattle.wh_read.specs.Held as held
 use Rattle.wh_read.specs.Reader as r

@@ -1,7 +1,7 @@
 use Rattle.std.proofs.Common.{rules}
 use Rattle.wh_text.specs.Erase.{tokens}
 use Rattle.wh_text.specs.Pieces.{IsCutInto}
-use Rattle.wh_parts.specs.Erase.{rparts}
+use Rattle.wh_system_parts.specs.Erase.{rparts}
 use Rattle.wh_read.specs.Parsing.{Parses}
 use Rattle.wh_read.specs.SyntaxFaults.{letters}
 use Rattle.wh_read.proofs.ProperParts.{parsed_parts_are_proper}

@@ -2,7 +2,7 @@ use Rattle.std.proofs.Common.{◌≡◌, option_map, ap, ◌∙◌, arith, rules
 use Rattle.std.proofs.lemmas.List.{length-append}
 use Rattle.wh_text.specs.Erase.{rtm, rtms, rty, rbinder}
 use Rattle.wh_text.specs.RawTree.{lam}
-use Rattle.wh_parts.specs.Erase.{rparts}
+use Rattle.wh_system_parts.specs.Erase.{rparts}
 use Rattle.wh_read.specs.Held as held
 use Rattle.wh_read.specs.Reader as r
 use Rattle.wh_read.proofs.HeldLaws.{state_along, state_at, term_under, ended_there}

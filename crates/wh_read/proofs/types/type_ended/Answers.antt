@@ -1,6 +1,6 @@
 use Rattle.std.proofs.Common.{[], ap, sym, ◌∙◌}
 use Rattle.wh_text.specs.Erase.{rty, rtys}
-use Rattle.wh_parts.specs.Erase.{rparts}
+use Rattle.wh_system_parts.specs.Erase.{rparts}
 use Rattle.wh_read.specs.Held as held
 use Rattle.wh_read.specs.Reader as r
 use Rattle.wh_read.proofs.HeldLaws.{outer_push, paren_wanted}

@@ -1,5 +1,5 @@
-use Rattle.wh_reduction.specs.TaskView.{task_data}
-use Rattle.wh_ordering.specs.FilteringView.{filtering_data}
+use Rattle.wh_reduction_pairs.specs.TaskView.{task_data}
+use Rattle.wh_order_node.specs.FilteringView.{filtering_data}
 use Rattle.wh_checker.proofs.GoLemmas.{because_says}
 use Rattle.wh_tell_nodes.proofs.Filters.{filters_are}
 use Rattle.wh_tell_nodes.proofs.ordered.are_proper.Goals as goal

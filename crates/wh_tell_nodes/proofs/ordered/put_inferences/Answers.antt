@@ -1,8 +1,8 @@
 use Rattle.std.proofs.Common.{length, ◌∙◌}
 use Rattle.wh_system.specs.SystemView.{system_data}
 use Rattle.wh_pairs.specs.Views.{pairs_data}
-use Rattle.wh_reduction.specs.TaskData.{numbers_from}
-use Rattle.wh_reduction.proofs.Numbers.{numbers_within}
+use Rattle.wh_reduction_pairs.specs.TaskData.{numbers_from}
+use Rattle.wh_reduction_pairs.proofs.Numbers.{numbers_within}
 use Rattle.wh_checker.proofs.GoLemmas.{typed_task}
 use Rattle.wh_tell_nodes.proofs.ordered.put_inferences.Goals as goal
 

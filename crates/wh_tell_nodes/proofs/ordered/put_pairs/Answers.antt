@@ -1,7 +1,7 @@
 use Rattle.std.proofs.Common.{get_or}
 use Rattle.wh_pairs.proofs.ByPlace.{contains_at}
-use Rattle.wh_reduction.specs.TaskView.{task_data}
-use Rattle.wh_reduction.proofs.TaskLemmas.{pair_at}
+use Rattle.wh_reduction_pairs.specs.TaskView.{task_data}
+use Rattle.wh_reduction_pairs.proofs.TaskLemmas.{pair_at}
 use Rattle.wh_tell_nodes.proofs.ordered.put_pairs.Goals as goal
 
 pub filtered_pair-requires-clause-typed : goal.filtered_pair-requires-clause-typed

@@ -1,10 +1,10 @@
 use Rattle.std.proofs.Common.{map, ◌∙◌}
 use Rattle.wh_system.specs.SystemView.{system_data}
-use Rattle.wh_reduction.specs.TaskView.{task_data}
+use Rattle.wh_reduction_pairs.specs.TaskView.{task_data}
 use Rattle.wh_cert.specs.Said.{said_filter}
-use Rattle.wh_ordering.specs.FilteringView.{filtering_data}
+use Rattle.wh_order_node.specs.FilteringView.{filtering_data}
 use Rattle.wh_proof.proofs.FilterLemmas.{as_many_filters}
-use Rattle.wh_orienting.proofs.TypedCalls.{typed_calls}
+use Rattle.wh_order_check.proofs.TypedCalls.{typed_calls}
 use Rattle.wh_tell_nodes.proofs.ordered.put_under.Goals as goal
 
 pub are_proper-requires-clause-filters : goal.are_proper-requires-clause-filters

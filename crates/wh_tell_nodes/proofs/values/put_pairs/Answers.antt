@@ -1,8 +1,8 @@
 use Rattle.std.proofs.Common.{get_or}
 use Rattle.wh_pairs.specs.PairData.{pair_data}
 use Rattle.wh_pairs.proofs.ByPlace.{contains_number}
-use Rattle.wh_reduction.specs.TaskView.{task_data}
-use Rattle.wh_reduction.proofs.TaskLemmas.{pair_at}
+use Rattle.wh_reduction_pairs.specs.TaskView.{task_data}
+use Rattle.wh_reduction_pairs.proofs.TaskLemmas.{pair_at}
 use Rattle.wh_tell_nodes.proofs.values.put_pairs.Goals as goal
 
 pub pair_side-requires-clause-sides : goal.pair_side-requires-clause-sides

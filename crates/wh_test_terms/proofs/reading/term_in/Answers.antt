@@ -4,7 +4,7 @@ use Rattle.wh_terms.proofs.TypingLaws.{typed_loose, typed_term}
 use Rattle.wh_text.specs.Erase.{rtm}
 use Rattle.wh_step.proofs.RedexLemmas.{manageable_fit}
 use Rattle.wh_system.specs.SystemView.{system_data}
-use Rattle.wh_making.specs.Resolve.{Means, TellsMeant}
+use Rattle.wh_system_making.specs.Resolve.{Means, TellsMeant}
 use Rattle.wh_test_terms.proofs.reading.term_in.Goals as goal
 
 pub returns-in-Some-clause-shut : goal.returns-in-Some-clause-shut

@@ -1,10 +1,10 @@
 -- What an output means follows from what is answered and what is written.
 use Rattle.std.proofs.Common.{inl, inr, refl, sym, subst}
-use Rattle.wh_words.specs.Asked.{request}
-use Rattle.wh_judging.specs.Outcomes.{Shelves, outside}
-use Rattle.wh_replies.specs.Run.{Replies}
-use Rattle.wh_replies.proofs.Complete.{served}
-use Rattle.wh_replies.proofs.Meaning.{termination, non_termination}
+use Rattle.wh_top_words.specs.Asked.{request}
+use Rattle.wh_top_judging.specs.Outcomes.{Shelves, outside}
+use Rattle.wh_top_replies.specs.Run.{Replies}
+use Rattle.wh_top_replies.proofs.Complete.{served}
+use Rattle.wh_top_replies.proofs.Meaning.{termination, non_termination}
 use Rattle.wh_top.proofs.program.run.Goals as goal
 
 pub returns-in-Ok-clause-answer : goal.returns-in-Ok-clause-answer

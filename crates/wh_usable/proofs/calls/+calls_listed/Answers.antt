@@ -1,6 +1,6 @@
 use Rattle.std.proofs.Common.{ap, sym, subst}
 use Rattle.wh_terms.specs.Erase.{tm}
-use Rattle.wh_first_order.specs.FirstOrder.{IsFlatTree}
+use Rattle.wh_usable_first_order.specs.FirstOrder.{IsFlatTree}
 use Rattle.wh_usable.specs.Closed.{ListsRulesIn}
 use Rattle.wh_usable.proofs.CallLemmas.{lists_fun, lists_app}
 use Rattle.wh_usable.proofs.calls.+calls_listed.Goals as goal

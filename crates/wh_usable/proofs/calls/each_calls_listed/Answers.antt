@@ -1,7 +1,7 @@
 use Rattle.std.proofs.Common.{refl}
 use Rattle.wh_terms.specs.Erase.{tm}
 use Rattle.wh_pairs.proofs.ByPlace.{read, contains_at, before_more, before_all}
-use Rattle.wh_first_order.proofs.Lists.{flat_each}
+use Rattle.wh_usable_first_order.proofs.Lists.{flat_each}
 use Rattle.wh_usable.specs.Closed.{ListsRulesIn}
 use Rattle.wh_usable.proofs.CallLemmas.{lists_all, lists_each}
 use Rattle.wh_usable.proofs.calls.each_calls_listed.Goals as goal

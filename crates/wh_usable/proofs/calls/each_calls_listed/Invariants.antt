@@ -3,7 +3,7 @@ use Rattle.wh_terms.specs.Erase.{tm}
 use Rattle.wh_terms.specs.Rules.{RewriteRule}
 use Rattle.wh_terms.specs.Typing.{Declared, Symbols}
 use Rattle.wh_pairs.proofs.ByPlace.{Before}
-use Rattle.wh_first_order.specs.FirstOrder.{AreFlatTrees}
+use Rattle.wh_usable_first_order.specs.FirstOrder.{AreFlatTrees}
 use Rattle.wh_usable.specs.Closed.{ListsRulesIn}
 use Rattle.wh_usable.specs.Tables.{IsTableOf}
 use Rattle.wh_usable.proofs.calls.each_calls_listed.Given as goal

@@ -2,7 +2,7 @@ use Rattle.std.proofs.Common.{◌≡◌, List, length, inl, ap, arith}
 use Rattle.std.proofs.lemmas.List.{length-map}
 use Rattle.wh_terms.specs.Erase.{rewrite_rule}
 use Rattle.wh_terms.specs.Rules.{RewriteRule}
-use Rattle.wh_reduction.specs.TaskView.{task_data}
+use Rattle.wh_reduction_pairs.specs.TaskView.{task_data}
 use Rattle.wh_usable.proofs.Whole.{all_numbers, fewer_numbers}
 use Rattle.wh_usable.proofs.closed.check_closed.Goals as goal
 

@@ -1,8 +1,8 @@
 use Rattle.std.proofs.Common.{get_or}
 use Rattle.wh_pairs.specs.PairData.{pair_data}
 use Rattle.wh_pairs.proofs.ByPlace.{number_at, before_more, before_all}
-use Rattle.wh_reduction.specs.TaskView.{task_data}
-use Rattle.wh_reduction.proofs.TaskLemmas.{pair_at}
+use Rattle.wh_reduction_pairs.specs.TaskView.{task_data}
+use Rattle.wh_reduction_pairs.proofs.TaskLemmas.{pair_at}
 use Rattle.wh_usable.specs.Closed.{IsClosedPair}
 use Rattle.wh_usable.proofs.Firsts.{IsAt, is_at, first_not}
 use Rattle.wh_usable.proofs.closed.first_open_pair.Goals as goal

@@ -1,5 +1,5 @@
 use Rattle.wh_pairs.proofs.ByPlace.{Before}
-use Rattle.wh_reduction.specs.TaskView.{task_data}
+use Rattle.wh_reduction_pairs.specs.TaskView.{task_data}
 use Rattle.wh_usable.specs.Closed.{IsClosedPair}
 use Rattle.wh_usable.proofs.Firsts.{IsAt}
 use Rattle.wh_usable.proofs.closed.first_open_pair.Given as goal

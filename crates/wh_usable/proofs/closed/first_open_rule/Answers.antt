@@ -1,7 +1,7 @@
 use Rattle.std.proofs.Common.{get_or}
 use Rattle.wh_terms.specs.Erase.{rewrite_rule}
 use Rattle.wh_pairs.proofs.ByPlace.{number_at, contains_at, before_more, before_all}
-use Rattle.wh_reduction.specs.TaskView.{task_data}
+use Rattle.wh_reduction_pairs.specs.TaskView.{task_data}
 use Rattle.wh_usable.specs.Closed.{IsClosedRule}
 use Rattle.wh_usable.proofs.Firsts.{IsAt, is_at, first_not}
 use Rattle.wh_usable.proofs.RuleAt.{rule_at}

@@ -3,7 +3,7 @@ use Rattle.wh_terms.specs.Erase.{tm}
 use Rattle.wh_terms.specs.declared.term.Term.{Term}
 use Rattle.wh_system.specs.SystemView.{system_data}
 use Rattle.wh_pairs.specs.PairData.{pair_data}
-use Rattle.wh_first_order.specs.FirstOrder.{AreFlatTrees}
+use Rattle.wh_usable_first_order.specs.FirstOrder.{AreFlatTrees}
 use Rattle.wh_usable.specs.Closed.{ListsRulesInEach}
 use Rattle.wh_usable.proofs.closed.is_closed_pair.Goals as goal
 

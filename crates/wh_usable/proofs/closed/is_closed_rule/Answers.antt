@@ -4,7 +4,7 @@ use Rattle.wh_terms.specs.Erase.{declared_metas, rewrite_rule, symbols}
 use Rattle.wh_terms.specs.Typing.{Symbols, Typed}
 use Rattle.wh_terms.specs.declared.rule.MetaDecl.{MetaDecl}
 use Rattle.wh_system.specs.SystemView.{system_data}
-use Rattle.wh_first_order.specs.FirstOrder.{IsFlatTree}
+use Rattle.wh_usable_first_order.specs.FirstOrder.{IsFlatTree}
 use Rattle.wh_usable.proofs.RuleLemmas.{closed_rule}
 use Rattle.wh_usable.proofs.closed.is_closed_rule.Goals as goal
 

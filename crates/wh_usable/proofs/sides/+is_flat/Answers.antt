@@ -2,7 +2,7 @@ use Rattle.std.proofs.Common.{◌≡◌, ◌==◌, true, List, length, ap, sym, 
 use Rattle.wh_terms.specs.Erase.{declared_metas, symbols}
 use Rattle.wh_terms.specs.declared.term.Term.{Term}
 use Rattle.wh_terms.proofs.TermLemmas.{tm_of_meta}
-use Rattle.wh_first_order.specs.FirstOrder.{IsFlatTree}
+use Rattle.wh_usable_first_order.specs.FirstOrder.{IsFlatTree}
 use Rattle.wh_usable.proofs.FlatSides.{flat_if, flat_then}
 use Rattle.wh_usable.proofs.sides.+is_flat.Goals as goal
 

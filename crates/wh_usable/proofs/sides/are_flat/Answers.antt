@@ -1,8 +1,8 @@
 use Rattle.std.proofs.Common.{refl}
 use Rattle.wh_terms.specs.Erase.{declared_metas, symbols, tm}
 use Rattle.wh_pairs.proofs.ByPlace.{read, contains_at, before_more, before_all}
-use Rattle.wh_first_order.specs.FirstOrder.{IsFlatTree}
-use Rattle.wh_first_order.proofs.Lists.{all_flat, flat_each}
+use Rattle.wh_usable_first_order.specs.FirstOrder.{IsFlatTree}
+use Rattle.wh_usable_first_order.proofs.Lists.{all_flat, flat_each}
 use Rattle.wh_usable.proofs.sides.are_flat.Goals as goal
 
 pub returns-then-not-is_flat : goal.returns-then-not-is_flat

@@ -1,6 +1,6 @@
 -- By induction on steps and direct subterms.
 use Rattle.wh_terms.proofs.TypingLaws.{typed_loose, typed_term}
-use Rattle.wh_laws.proofs.SystemSteps.{bounded-ends}
+use Rattle.wh_step_laws.proofs.SystemSteps.{bounded-ends}
 use Rattle.wh_usable_calls.proofs.BoundLaws.{ending_bound}
 use Rattle.wh_usable_calls.proofs.bounds.bounded_terms_have_bounds.Goals as goal
 

@@ -9,7 +9,7 @@ use Rattle.wh_pairs.specs.PairData.{IsIncreasing, pair_data}
 use Rattle.wh_pairs.specs.declared.pair.Pair.{Pair}
 use Rattle.wh_pairs.specs.Views.{pairs_data}
 use Rattle.wh_pairs.proofs.SetLemmas.{all_from_members}
-use Rattle.wh_reduction.specs.TaskData.{TaskData, task_over, whole_task}
+use Rattle.wh_reduction_pairs.specs.TaskData.{TaskData, task_over, whole_task}
 use Rattle.wh_usable.specs.Closed.{IsClosed}
 use Rattle.wh_usable.proofs.Decisions.{closed_not_open}
 use Rattle.wh_usable.proofs.Whole.{all_numbers, fewer_numbers}

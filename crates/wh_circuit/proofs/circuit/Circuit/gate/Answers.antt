@@ -5,7 +5,7 @@ use Rattle.wh_sat_trail.specs.Assignment.{AllBelow}
 use Rattle.wh_sat_trail.specs.Propagation.{Within}
 use Rattle.wh_sat.specs.Solving.{Solves}
 use Rattle.wh_circuit.specs.declared.circuit.Gate.{Gate}
-use Rattle.wh_gate_clauses.specs.Clauses.{gate_clauses}
+use Rattle.wh_circuit_gates.specs.Clauses.{gate_clauses}
 use Rattle.wh_circuit.specs.Gates.{Agrees, Extends, IsAlwaysTrue, Ordered}
 use Rattle.wh_circuit.specs.Values.{all_true}
 use Rattle.wh_circuit.proofs.Solving.{solves_left, solves_right, solves_both, gate_holds, holds_gate}

@@ -1,5 +1,5 @@
 use Rattle.std.proofs.Common.{◌≡◌, ◌+◌, length, get_or, arith, ap, ◌∙◌}
-use Rattle.wh_blocking.proofs.BitLemmas.{first_all}
+use Rattle.wh_poly_blocking.proofs.BitLemmas.{first_all}
 use Rattle.wh_find_flat.proofs.BitsLemmas.{there}
 use Rattle.wh_find_flat.proofs.bits.Bits.count.Goals as goal
 

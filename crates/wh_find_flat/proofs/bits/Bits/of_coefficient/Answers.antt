@@ -1,5 +1,5 @@
 use Rattle.std.proofs.Common.{◌≡◌, ◌<◌, ◌≤◌, ◌^◌, ℕ, ◌+◌, ◌*◌, ◌∙◌, List, length, get_or, refl, arith}
-use Rattle.wh_blocking.specs.Sizes.{first_of}
+use Rattle.wh_poly_blocking.specs.Sizes.{first_of}
 use Rattle.wh_find_flat.proofs.BitsLemmas.{absent_at, absent_past, room_at, there, written_at}
 use Rattle.wh_find_flat.proofs.bits.Bits.of_coefficient.Goals as goal
 use Rattle.wh_find_flat.proofs.bits.Bits.of_coefficient.Goals.{else-number-len-via-then-number-len+else-place-index, else-number-len-via-else-number-len}

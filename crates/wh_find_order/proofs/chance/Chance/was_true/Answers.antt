@@ -3,7 +3,7 @@ use Rattle.std.specs.Bool.{OnTrue}
 use Rattle.wh_sat_trail.specs.Watch.{nothing}
 use Rattle.wh_sat.specs.Solving.{literal_true}
 use Rattle.wh_sat.proofs.Assuring.{clause_true_by}
-use Rattle.wh_blocking.specs.Sizes.{value_of}
+use Rattle.wh_poly_blocking.specs.Sizes.{value_of}
 use Rattle.wh_find_order.proofs.chance.Chance.was_true.Goals as goal
 
 on_true : {P : Type 0} (b : Bool) → (b ≡ true → P) → OnTrue b P

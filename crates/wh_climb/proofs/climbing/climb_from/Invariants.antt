@@ -1,5 +1,0 @@
-use Rattle.wh_guesses.specs.Tasks.{IsGuessOf}
-use Rattle.wh_climb.proofs.climbing.climb_from.Given as goal
-
-abbrev pub invariant-rounds : goal.invariant-rounds
-invariant-rounds l = IsGuessOf l.task l.guess

@@ -1,5 +1,0 @@
-use Rattle.wh_guesses.specs.Tasks.{IsGuessOf}
-use Rattle.wh_climb.proofs.climbing.read_sides.Given as goal
-
-abbrev pub invariant-loop-number : goal.invariant-loop-number
-invariant-loop-number l = IsGuessOf l.task l.guess

@@ -1,5 +1,0 @@
-use Rattle.wh_guesses.specs.Tasks.{IsGuessOf}
-use Rattle.wh_climb.proofs.climbing.renew_all.Given as goal
-
-abbrev pub invariant-loop-condition : goal.invariant-loop-condition
-invariant-loop-condition l = IsGuessOf l.task l.guess

@@ -1,7 +1,0 @@
-use Rattle.std.proofs.Common.{◌≡◌, take, map}
-use Rattle.wh_terms.specs.Erase.{tm}
-use Rattle.wh_find_calls.specs.Views.{trees}
-use Rattle.wh_find_pairs.proofs.candidate.left_arguments.Given as goal
-
-abbrev pub invariant-loop-argument : goal.invariant-loop-argument
-invariant-loop-argument l = map tm l.left ≡ trees (take l.argument-index l.arguments)

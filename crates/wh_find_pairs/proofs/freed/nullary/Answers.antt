@@ -1,8 +1,0 @@
-use Rattle.std.proofs.Common.{ap, ◌∙◌}
-use Rattle.wh_terms.specs.Tree.{meta}
-use Rattle.wh_terms.specs.Erase.{tms}
-use Rattle.wh_terms.proofs.TermLemmas.{tm_meta}
-use Rattle.wh_find_pairs.proofs.freed.nullary.Goals as goal
-
-pub returns : goal.returns
-returns c = tm_meta c.args.meta c.in_ok-new.field-0 ∙ ap (λ ts. meta c.args.meta (tms ts)) c.in_ok-new.ensures

@@ -1,6 +1,0 @@
-use Rattle.std.proofs.Common.{◌≡◌, take}
-use Rattle.wh_types.specs.Erase.{tys}
-use Rattle.wh_find_pairs.proofs.subsumption.same_types.Given as goal
-
-abbrev pub invariant-loop-i : goal.invariant-loop-i
-invariant-loop-i l = tys (take l.i l.a) ≡ tys (take l.i l.b)

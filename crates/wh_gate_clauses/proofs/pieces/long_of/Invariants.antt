@@ -1,7 +1,0 @@
-use Rattle.std.proofs.Common.{◌≡◌, ◌∷◌, take, map}
-use Rattle.wh_sat_trail.specs.Assignment.{negated}
-use Rattle.wh_gate_clauses.specs.Clauses.{yes}
-use Rattle.wh_gate_clauses.proofs.pieces.long_of.Given as goal
-
-abbrev pub invariant-loop-wire : goal.invariant-loop-wire
-invariant-loop-wire l = l.clause ≡ yes l.number ∷ map negated (take l.wire-index l.of)

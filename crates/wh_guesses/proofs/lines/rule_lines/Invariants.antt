@@ -1,7 +1,0 @@
-use Rattle.wh_reduction.specs.TaskView.{task_data}
-use Rattle.wh_polycheck.specs.ReadingsView.{readings_data}
-use Rattle.wh_guesses.proofs.LineLemmas.{HasRuleLines}
-use Rattle.wh_guesses.proofs.lines.rule_lines.Given as goal
-
-abbrev pub invariant-loop-i : goal.invariant-loop-i
-invariant-loop-i l = HasRuleLines (task_data l.task) (readings_data l.readings) l.i l.lines

@@ -1,6 +1,0 @@
-use Rattle.std.proofs.lemmas.Result.{IfOk-weaker}
-use Rattle.wh_path_order.specs.Verdict.{greater}
-use Rattle.wh_infer.proofs.line.find_greater.Goals as goal
-
-pub returns : goal.returns
-returns c = IfOk-weaker c.find.result _ _ (λ r h. h greater c.args.left.now c.args.right.now c.strict_goal.ensures) c.find.ensures

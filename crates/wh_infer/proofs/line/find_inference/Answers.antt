@@ -1,6 +1,0 @@
-use Rattle.std.proofs.lemmas.Result.{IfOk-weaker}
-use Rattle.wh_path_order.specs.Verdict.{at_least}
-use Rattle.wh_infer.proofs.line.find_inference.Goals as goal
-
-pub returns : goal.returns
-returns c = IfOk-weaker c.find.result _ _ (λ r h. h at_least c.args.left.now c.args.right.now c.weak_goal.ensures) c.find.ensures

@@ -1,8 +1,0 @@
--- The entries so far are for what stands at the numbers so far.
-use Rattle.wh_terms.specs.Erase.{symbols}
-use Rattle.wh_no.specs.Entry.{entry_puts}
-use Rattle.wh_loops.proofs.EntryLemmas.{AreSoFar}
-use Rattle.wh_loops.proofs.entries.typed_entries.Given as goal
-
-abbrev pub invariant-loop-number : goal.invariant-loop-number
-invariant-loop-number l = AreSoFar (symbols l.signature) l.table l.number (entry_puts l.entries.items)

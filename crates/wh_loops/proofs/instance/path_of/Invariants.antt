@@ -1,6 +1,0 @@
--- The path so far.
-use Rattle.std.proofs.Common.{◌≡◌, take}
-use Rattle.wh_loops.proofs.instance.path_of.Given as goal
-
-abbrev pub invariant-loop-step : goal.invariant-loop-step
-invariant-loop-step l = l.path ≡ take l.step-index l.steps

@@ -1,8 +1,0 @@
-use Rattle.std.proofs.Common.{map}
-use Rattle.wh_system.specs.SystemView.{system_data}
-use Rattle.wh_subterm.specs.SubtermRows.{HasNone, chosen}
-use Rattle.wh_pairs.proofs.ByPlace.{Before}
-use Rattle.wh_numbered.proofs.marked.first_without_argument.Given as goal
-
-abbrev pub invariant-loop-choice : goal.invariant-loop-choice
-invariant-loop-choice l = (Before (λ d. HasNone (system_data l.system).rules d → ⊥) (map chosen l.args) l.choice-index)

@@ -1,7 +1,0 @@
-use Rattle.std.proofs.Common.{ℕ, ◌≤◌, ◌<◌, map}
-use Rattle.wh_numbered.specs.Headed.{HeadsAt}
-use Rattle.wh_numbered.specs.SidesAsPairs.{heads_of}
-use Rattle.wh_numbered.proofs.marked.headed_between.Given as goal
-
-abbrev pub invariant-loop-place : goal.invariant-loop-place
-invariant-loop-place l = (k : ℕ) → l.from ≤ k → k < l.place → HeadsAt (map heads_of l.sides) l.set l.symbol k → ⊥

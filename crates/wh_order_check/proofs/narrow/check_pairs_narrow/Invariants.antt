@@ -1,0 +1,9 @@
+use Rattle.std.proofs.Common.{ℕ, ◌<◌, map}
+use Rattle.wh_reduction_pairs.specs.TaskView.{task_data}
+use Rattle.wh_reduction_pairs.specs.ReductionPair.{IsRightPair}
+use Rattle.wh_order_inference.specs.Said.{inference}
+use Rattle.wh_order_check.specs.OrderingFaults.{narrow_lines}
+use Rattle.wh_order_check.proofs.narrow.check_pairs_narrow.Given as goal
+
+abbrev pub invariant-loop-i : goal.invariant-loop-i
+invariant-loop-i l = let T = task_data l.task in (k : ℕ) → k < l.i → IsRightPair (narrow_lines T.symbols) T (map inference l.lines) l.drop k

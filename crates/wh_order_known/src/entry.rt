@@ -1,0 +1,25 @@
+//! Goals whose least number of entries is known.
+
+use wh_order::Claim;
+use wh_order_trees::Tree;
+
+/// The least number of entries that shows a goal, nested at most so deep.
+#[derive(Drop)]
+pub struct Entry {
+    /// What is claimed.
+    pub claim: Claim,
+    /// The number for the next variable.
+    pub next: u32,
+    /// The left tree.
+    pub left: Tree,
+    /// The right tree.
+    pub right: Tree,
+    /// How deep inferences nest at most.
+    pub room: u8,
+    /// The least number of their entries; `None` where it is 2^32 at least.
+    pub count: Option<u32>,
+    /// The key of the goal; nothing is claimed of it.
+    pub key: u32,
+    /// The place of the entry before it in its bucket; its own place or a higher number where there is none.
+    pub before: usize,
+}

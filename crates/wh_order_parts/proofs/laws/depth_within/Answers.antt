@@ -1,5 +1,0 @@
-use Rattle.wh_order_parts.proofs.InferenceWhole.{depth_within}
-use Rattle.wh_order_parts.proofs.laws.depth_within.Goals as goal
-
-pub returns : goal.returns
-returns c = depth_within

@@ -1,5 +1,0 @@
-use Rattle.wh_order_parts.proofs.InferenceWhole.{entries_short}
-use Rattle.wh_order_parts.proofs.laws.entries_short.Goals as goal
-
-pub returns : goal.returns
-returns c = entries_short

@@ -1,5 +1,0 @@
-use Rattle.wh_order_parts.proofs.InferenceWhole.{one_inference}
-use Rattle.wh_order_parts.proofs.laws.one_inference.Goals as goal
-
-pub returns : goal.returns
-returns c = one_inference

@@ -1,6 +1,0 @@
--- By computability.
-use Rattle.wh_path_order.proofs.OrderEnds.{path_order_ends}
-use Rattle.wh_path_order.proofs.order.path_order_ends.Goals as goal
-
-pub returns : goal.returns
-returns c F prec t a known one p = path_order_ends F prec known one t a p

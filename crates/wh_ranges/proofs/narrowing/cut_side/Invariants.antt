@@ -1,9 +1,0 @@
-use Rattle.wh_ranges.specs.Bounds.{AreRanges}
-use Rattle.wh_ranges.specs.Out.{KeepsAll}
-use Rattle.wh_ranges.proofs.narrowing.cut_side.Given as goal
-
-abbrev pub invariant-loop-number : goal.invariant-loop-number
-invariant-loop-number l = record {
-  ranges : AreRanges l.task l.ranges;
-  kept : KeepsAll l.task l.cutting.goal.strict l.initial.ranges l.ranges;
-}

@@ -1,9 +1,0 @@
-use Rattle.wh_ranges.specs.Bounds.{AreRanges}
-use Rattle.wh_ranges.specs.Out.{KeepsAll}
-use Rattle.wh_ranges.proofs.narrowing.narrow_all.Given as goal
-
-abbrev pub invariant-conditions : goal.invariant-conditions
-invariant-conditions l = record {
-  ranges : AreRanges l.task l.ranges;
-  kept : KeepsAll l.task l.strict l.initial.ranges l.ranges;
-}

@@ -1,5 +1,0 @@
-use Rattle.wh_ranges.specs.Out.{AllOut, IsSpanOut}
-use Rattle.wh_ranges.proofs.search.is_excluded.Given as goal
-
-abbrev pub invariant-spans : goal.invariant-spans
-invariant-spans l = AllOut l.task l.strict l.spans.items → IsSpanOut l.task l.strict l.fn.first

@@ -1,5 +1,0 @@
-use Rattle.wh_reduce.proofs.FirstSteps.{first_reduct, reduct_first}
-use Rattle.wh_reduce.proofs.laws.first_reduct_is_leftmost.Goals as goal
-
-pub returns : goal.returns
-returns c S rules t u us well are = (first_reduct S well u us are, reduct_first S well u us are)

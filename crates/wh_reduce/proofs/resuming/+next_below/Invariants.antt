@@ -1,5 +1,0 @@
-use Rattle.std.proofs.Common.{length}
-use Rattle.wh_reduce.proofs.resuming.+next_below.Given as goal
-
-abbrev pub decreases-next_below : goal.decreases-next_below
-decreases-next_below l = length l.place.now

@@ -1,0 +1,14 @@
+use Rattle.std.proofs.Common.{refl, length}
+use Rattle.std.proofs.lemmas.Option.{slice_get_read}
+use Rattle.wh_system_parts.specs.Parts.{RName}
+use Rattle.wh_system_parts.specs.Erase.{rname}
+use Rattle.wh_system_parts.proofs.DeclarationLemmas.{count_over, count_under}
+use Rattle.wh_system_parts.proofs.declarations.check_sort_count.Goals as goal
+
+pub returns-in-Some : goal.returns-in-Some
+returns-in-Some c =
+    let xs = c.args.sorts.now in
+    count_over rname (λ (s : RName). s.at) 256 xs c.in-Some.extra.now (slice_get_read xs (length xs) 256 c.in-Some.extra.now refl c.in-Some.ensures.lookup.3.0 c.in-Some.ensures.lookup.1)
+
+pub returns-in-None : goal.returns-in-None
+returns-in-None c = count_under rname (λ (s : RName). s.at) 256 c.args.sorts.now c.in-None.ensures.lookup.3
