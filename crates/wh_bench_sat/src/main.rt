@@ -14,9 +14,9 @@ use std::alloc::{AllocError, Global};
 use std::process::ExitCode;
 use std::rt::{Env, Files};
 use std::{env, fs};
-use wh_sat_listed::{Listed, solve_listed};
 use wh_refute::check_refutation;
 use wh_sat::{Outcome, solve_owned};
+use wh_sat_listed::{Listed, solve_listed};
 use wh_sat_trail::{Formula, Refutation};
 use wh_types::Or;
 

@@ -14,8 +14,8 @@ use crate::sections::{LineBegun, LinesStep, Section, Sections};
 use std::alloc::{AllocError, Global};
 use std::mem;
 use wh_cert::{NamedFilter, NamedFilters, OrderNode};
-use wh_order_inference::{Filter, Inference, Inferences};
 use wh_cert_letters::{Letters, begins_name};
+use wh_order_inference::{Filter, Inference, Inferences};
 use wh_order_text::{FilterStep, FilterText, InferenceStep, InferenceText};
 use wh_types::Numbers;
 

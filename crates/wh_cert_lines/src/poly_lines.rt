@@ -13,9 +13,9 @@ use crate::sections::{LineBegun, LinesStep, Section, Sections};
 use std::alloc::{AllocError, Global};
 use std::mem;
 use wh_cert::{Interp, Interps, PolyNode};
+use wh_cert_letters::{Letters, begins_name, first_big, first_number, next_big, next_number};
 use wh_cert_parts::{PolyStep, PolyText};
 use wh_hopoly::{Covers, Move, Moves};
-use wh_cert_letters::{Letters, begins_name, first_big, first_number, next_big, next_number};
 use wh_poly::Poly;
 use wh_types::Numbers;
 

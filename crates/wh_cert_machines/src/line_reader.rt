@@ -12,8 +12,8 @@ ghost use Rattle.wh_cert_machines.specs.declared.line_reader.LinePlace.TheVarian
 use std::alloc::{AllocError, Global};
 use std::mem;
 use wh_cert::Put;
-use wh_cert_parts::{Frame, TermPlace, TermStep, TypePlace, TypeStep, term_step, type_step};
 use wh_cert_letters::{first_number, next_number};
+use wh_cert_parts::{Frame, TermPlace, TermStep, TypePlace, TypeStep, term_step, type_step};
 use wh_terms::{Path, Step};
 use wh_text::{RawTerm, RawType, RawTypes};
 

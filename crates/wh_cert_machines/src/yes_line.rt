@@ -17,8 +17,8 @@ ghost use Rattle.wh_cert_machines.specs.declared.yes_line.YesPlace.TheVariants a
 use std::alloc::{AllocError, Global};
 use std::mem;
 use wh_cert::{Arg, Args, Node};
-use wh_cert_lines::{LinesStep, OrderLines, PolyLines, Section};
 use wh_cert_letters::{Letters, begins_name, first_number, next_number};
+use wh_cert_lines::{LinesStep, OrderLines, PolyLines, Section};
 use wh_types::{Blocks, Numbers};
 
 /// A list of numbers.

@@ -6,8 +6,8 @@ ghost use Rattle.wh_cert_versions.specs.Certificates.{IsCertificateOf, IsFirst};
 
 use std::alloc::{AllocError, Global};
 use wh_cert::{Node, Nodes, YesCertificate};
-use wh_types::Numbers;
 use wh_cert_upgrade::upgrade_nodes;
+use wh_types::Numbers;
 
 /// The certificate of these nodes for a system with so many rules. It is of version 1 where each node is of that
 /// version; else it is of version 2, and a node of interpretations that lists no rules gets the list of all.

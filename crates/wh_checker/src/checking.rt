@@ -23,10 +23,10 @@ use crate::walk::check_nodes;
 use std::alloc::Global;
 use wh_access::{Inaccessible, check_ranks};
 use wh_cert::{Certificate, NoCertificate, YesCertificate};
-use wh_poly_meaning::pairs_have_marked_sides;
 use wh_no::{AcceptedNo, check_no, valid_claims_are_unbounded};
-use wh_proof_nodes::proved_systems_are_bounded;
 use wh_pairs::{PairList, PairSet, numbers_below};
+use wh_poly_meaning::pairs_have_marked_sides;
+use wh_proof_nodes::proved_systems_are_bounded;
 use wh_system::System;
 use wh_types::{Or, Ranks};
 

@@ -23,12 +23,12 @@ ghost use Rattle.wh_checker.specs.declared.rejected.NodeFault.TheVariants.{NotEm
 use crate::rejected::NodeFault;
 use std::alloc::{AllocError, Global};
 use wh_cert::{Arg, Node, OrderNode, PolyNode};
-use wh_poly_covering::{Evidence, check_covering};
 use wh_graph::{check_blocks, may_follow};
 use wh_intern_pairs::{Numbered, check_numbered};
-use wh_order_node::Filters;
 use wh_order_check::{Inferred, check_ordering};
+use wh_order_node::Filters;
 use wh_pairs::{Pair, PairList, PairSet, kept};
+use wh_poly_covering::{Evidence, check_covering};
 use wh_polycheck::Readings;
 use wh_proof::{
     choices_of, filters_of_lines, marks_of_set, open_blocks, rules_to_cover, symbols_of,

@@ -5,11 +5,11 @@ ghost use Rattle.wh_checker.specs.Faults.{at_covering, at_node, at_open, at_orde
 ghost use Rattle.wh_checker.specs.declared.rejected.NodeFault.TheVariants.{Blocks, Subterm};
 ghost use Rattle.wh_poly_covering.specs.declared.fault.CoveringFault.TheVariants.{Pair, Rule};
 
-use wh_poly_covering::{CoveringFault, LineFault};
 use wh_graph::BlockFault;
 use wh_no::NoFault;
 use wh_order_check::OrderingFault;
 use wh_poly::Excess;
+use wh_poly_covering::{CoveringFault, LineFault};
 use wh_polycheck::CoverFault;
 use wh_subterm::SubtermFault;
 use wh_usable::NotClosed;

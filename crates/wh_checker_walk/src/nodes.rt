@@ -13,9 +13,9 @@ ghost use Rattle.wh_checker.specs.declared.checking.Accepted.TheVariants.{Yes as
 use std::alloc::Global;
 use wh_cert::Node;
 use wh_checker::{AcceptedYes, CheckFault, check_head, check_next};
-use wh_poly_meaning::pairs_have_marked_sides;
 use wh_intern_pairs::Numbered;
 use wh_pairs::{PairList, PairSet};
+use wh_poly_meaning::pairs_have_marked_sides;
 use wh_system::System;
 use wh_types::Or;
 

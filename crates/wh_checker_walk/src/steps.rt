@@ -9,10 +9,10 @@ ghost use Rattle.wh_no.specs.Faults as claims;
 ghost use Rattle.wh_checker_walk.specs.Walking.{AtSteps, CanCome, CanStand, HasNothing, IsRefused, Leads, Stays};
 
 use std::alloc::Global;
-use wh_system_making::NameTables;
 use wh_no::{NoFault, check_term};
 use wh_step::{StepFault, replay};
 use wh_system::System;
+use wh_system_making::NameTables;
 use wh_terms::{Step, Term, copy_term};
 use wh_text::RawTerm;
 use wh_types::Or;

@@ -8,8 +8,8 @@ ghost use Rattle.wh_sat.specs.Solving.{literal_true};
 
 use std::alloc::{AllocError, Global};
 use wh_circuit::Circuit;
-use wh_circuit_sums::added;
 use wh_circuit_gates::{Wire, Wires, wires_from};
+use wh_circuit_sums::added;
 
 /// The bits of the product of two numbers, at most as many as both have together. At most ten variables join for each
 /// bit of the first and each of the second, and one more for each bit of the first.

@@ -5,9 +5,9 @@ ghost use Rattle.std.specs.Prelude.{◌<◌, All, IfOk, length};
 
 use crate::SYSTEM_LIMIT;
 use std::alloc::{AllocError, Global};
-use wh_pairs_making::pairs;
 use wh_graph::components;
 use wh_pairs::{PairList, PairSet};
+use wh_pairs_making::pairs;
 use wh_read::read_system;
 use wh_types::Bytes;
 

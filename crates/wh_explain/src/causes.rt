@@ -8,12 +8,12 @@ ghost use Rattle.wh_pairs.specs.Views.{pairs_data};
 use crate::guessed::put_best_guess;
 use std::alloc::{AllocError, Global};
 use wh_access::NoRanks;
-use wh_top_judging::Problem;
 use wh_pairs::PairSet;
 use wh_prover::{Answer, Cause, Finder, Options, prove};
 use wh_tell::Piece::{Named, Number, Unknown};
 use wh_tell::{Text, names_of_rule, names_of_system, put_demands, put_pairs, tell, tell_line};
 use wh_tell_parts::{is_within, put_closest_projection};
+use wh_top_judging::Problem;
 
 // What a search came to that ended on a set of pairs.
 const NONE_LETS_GO: &str =

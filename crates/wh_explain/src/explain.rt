@@ -19,8 +19,8 @@ use wh_answer::{NamedRejection, Report, print_answer};
 use wh_cert::Certificate;
 use wh_cert_text::read_certificate;
 use wh_checker::valid_certificates_mean_bounded;
+use wh_explain_verdict::{Verdict, first_words, verdict_of};
 use wh_io::Shelf;
-use wh_top_judging::{Problem, certificate_in, problem_in, weigh};
 use wh_no::valid_claims_are_unbounded;
 use wh_prover::{Answer, Options, prove};
 use wh_system::System;
@@ -28,8 +28,8 @@ use wh_tell::Piece::{Big, Count, Spell};
 use wh_tell::{Text, number_of, put_graph, put_lints, put_pair_line, put_ranks, tell, tell_line};
 use wh_tell_nodes::put_tree;
 use wh_tell_parts::{put_attempt, put_loop};
+use wh_top_judging::{Problem, certificate_in, problem_in, weigh};
 use wh_types::{Bytes, Or};
-use wh_explain_verdict::{Verdict, first_words, verdict_of};
 
 /// The bounds of a search, which are those of `prove` where it is given none.
 const USUAL: Options = Options {

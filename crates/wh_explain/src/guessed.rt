@@ -11,15 +11,15 @@ ghost use Rattle.wh_reduction_pairs.specs.TaskView.{task_data};
 ghost use Rattle.wh_poly_guesses.specs.Tasks.{IsGuessOf, IsTaskOf};
 
 use std::alloc::{AllocError, Global};
+use wh_pairs::{PairSet, marked_symbols};
 use wh_poly_climb::{Climbed, climb};
 use wh_poly_guesses::{Guess, guess_by, outcome_of};
-use wh_top_judging::Problem;
-use wh_pairs::{PairSet, marked_symbols};
 use wh_polycheck::MarkedSymbol;
 use wh_reduction_pairs::{Task, all_rules};
 use wh_system::System;
 use wh_tell::Piece::{Named, Sum};
 use wh_tell::{Text, names_of_system, number_of, put_pair_line, put_rule_line, tell_line};
+use wh_top_judging::Problem;
 
 // How many rules and pairs the climb looks at.
 const LOOKS: u64 = 30_000;

@@ -18,9 +18,9 @@ use crate::joining::list_if_new;
 use crate::starts::{Plan, plan_of};
 use std::alloc::{AllocError, Global};
 use wh_cert::NoCertificate;
-use wh_loop_steps::{copy_in_space, reduct_by, steps_of};
-use wh_loop_starts::{Instance, certificate_of, find_instance};
 use wh_loop_reached::{Entry, Listing, Origin, Visit, new_listing, steps_to, visits_of};
+use wh_loop_starts::{Instance, certificate_of, find_instance};
+use wh_loop_steps::{copy_in_space, reduct_by, steps_of};
 use wh_system::System;
 use wh_terms::{Step, Term};
 

@@ -5,8 +5,8 @@ ghost use Rattle.wh_system.specs.SystemView.{system_data};
 ghost use Rattle.wh_find_loop.specs.Searching.{AreStarts, IsPlan};
 
 use std::alloc::{AllocError, Global};
-use wh_loop_steps::{Table, table_of_rules};
 use wh_loop_starts::start_of_rule;
+use wh_loop_steps::{Table, table_of_rules};
 use wh_system::System;
 use wh_terms::Term;
 

@@ -14,9 +14,9 @@ ghost use Rattle.wh_order_space.specs.Spotted.{types_in};
 
 use crate::tables::precedence_bits;
 use std::alloc::{AllocError, Global};
+use wh_order_space::first_bits;
 use wh_poly_blocking::numbers_of_conditions;
 use wh_poly_guesses::{arguments_of, uses_of};
-use wh_order_space::first_bits;
 use wh_polycheck::kind_of_mark;
 use wh_reduction_pairs::Task;
 use wh_system::System;

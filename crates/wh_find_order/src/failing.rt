@@ -8,9 +8,9 @@ ghost use Rattle.wh_find_order.specs.Trials.{Fails, IsTried};
 use crate::encoding::Encoding;
 use crate::node::number_of_pair;
 use std::alloc::{AllocError, Global};
-use wh_poly_blocking::{Bits, Held};
 use wh_order_lines::{lacks_pair_line, lacks_rule_line};
 use wh_order_node::Filters;
+use wh_poly_blocking::{Bits, Held};
 
 /// The number of a condition on a line that fails under the order, which these bits write. Those that are known to hold
 /// are passed over, and so is the last one, that some pair shrinks.

@@ -11,8 +11,8 @@ ghost use Rattle.wh_order_space.specs.Bits.{number_from, places_from};
 ghost use Rattle.wh_find_order.specs.Encodings.{PicksSort};
 
 use std::alloc::{AllocError, Global};
-use wh_poly_blocking::bit;
 use wh_order_inference::Filter;
+use wh_poly_blocking::bit;
 use wh_types::{Numbers, SimpleType};
 
 /// The filter that the bits from one on write for a symbol with so many arguments, if they write one.

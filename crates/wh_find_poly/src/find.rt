@@ -11,10 +11,10 @@ ghost use Rattle.wh_poly_guesses.specs.Tasks.{IsTaskOf};
 ghost use Rattle.wh_poly_blocking.specs.Answers.{IsAnswer};
 
 use std::alloc::{AllocError, Global};
-use wh_poly_blocking::find_by_guesses;
 use wh_cert::Node;
-use wh_poly_climb::{Climbed, climb};
 use wh_pairs::{PairList, PairSet, marked_symbols};
+use wh_poly_blocking::find_by_guesses;
+use wh_poly_climb::{Climbed, climb};
 use wh_poly_ranges::has_none;
 use wh_reduction_pairs::{Task, all_rules};
 use wh_sat::Search;

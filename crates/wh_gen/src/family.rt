@@ -11,9 +11,9 @@ ghost use Rattle.wh_gen.specs.RawFamily.{raw_family};
 use crate::declarations::{funs, sorts};
 use crate::rules::rules;
 use std::alloc::{AllocError, Global};
+use wh_system::System;
 use wh_system_making::system_of;
 use wh_system_parts::Parts;
-use wh_system::System;
 use wh_types::Or;
 
 /// There is no generated system of so many functions.

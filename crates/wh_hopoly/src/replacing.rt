@@ -23,9 +23,9 @@ ghost use Rattle.wh_poly.specs.declared.polynomial.Atom.{out-Atom};
 use crate::renumbering::raise;
 use crate::scope::{Scope, find};
 use std::alloc::Global;
+use wh_poly::{Atom, Atoms, Excess, Poly, Polys, one_factor, with_arguments};
 use wh_poly_arithmetic::{Growing, Total, finish, multiply_by, multiply_by_variable, start};
 use wh_poly_limits::tested;
-use wh_poly::{Atom, Atoms, Excess, Poly, Polys, one_factor, with_arguments};
 use wh_types::{Or, SimpleType};
 
 /// What stands for a variable.

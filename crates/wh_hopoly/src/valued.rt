@@ -19,8 +19,8 @@ use crate::renumbering::raise;
 use crate::replacing::apply_one;
 use crate::scope::{Scope, find};
 use std::alloc::Global;
-use wh_poly_limits::{check_limits, variable};
 use wh_poly::{Excess, Poly};
+use wh_poly_limits::{check_limits, variable};
 use wh_types::{Or, SimpleType};
 
 /// A value, in a scope that goes on with the arguments of its type.

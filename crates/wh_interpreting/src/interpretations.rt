@@ -14,10 +14,10 @@ ghost use Rattle.wh_interpreting.specs.Interpreted.{Interprets, IsFlatList, IsIn
 
 use std::alloc::{AllocError, Global};
 use wh_cert::Node;
-use wh_poly_climb::{Climbed, climb};
 use wh_find_flat::{find_by_circuit, is_flat};
 use wh_find_poly::find_interpretation;
 use wh_pairs::{PairList, PairSet, marked_symbols};
+use wh_poly_climb::{Climbed, climb};
 use wh_reduction_pairs::{Task, all_rules};
 use wh_sat::Search;
 use wh_system::System;

@@ -16,8 +16,8 @@ ghost use Rattle.wh_loop_starts.specs.Lines.{line_of};
 use crate::instance::Instance;
 use std::alloc::{AllocError, Global};
 use wh_cert::{NoCertificate, Put, Puts, Steps};
-use wh_system_making::{raw_term, raw_type};
 use wh_system::System;
+use wh_system_making::{raw_term, raw_type};
 use wh_terms::{SubstEntry, Term};
 
 // The line that says what the entry puts.

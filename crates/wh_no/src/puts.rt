@@ -16,8 +16,8 @@ ghost use Rattle.wh_no.specs.Faults.{AreRight, AreRightTo, IsPutFault};
 use crate::fault::NoFault;
 use std::alloc::{AllocError, Global};
 use wh_cert::Put;
-use wh_system_making::NameTables;
 use wh_system::System;
+use wh_system_making::NameTables;
 use wh_terms::{Metas, SubstEntry, Term, type_of};
 use wh_types::{Or, SimpleType, same_type};
 

@@ -18,10 +18,10 @@ use crate::kept::filtered_mark;
 use crate::sift::{sift, sift_list};
 use std::alloc::Global;
 use wh_order_node::Filters;
-use wh_pairs::Pair;
 use wh_order_sides::{TooWide, extended_arguments, extended_rule};
-use wh_system::System;
 use wh_order_trees::Tree;
+use wh_pairs::Pair;
+use wh_system::System;
 use wh_types::Or;
 
 /// The right side of a rule, or its left side, with all its arguments and behind the filters (Kop 2012).

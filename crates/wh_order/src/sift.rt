@@ -11,8 +11,8 @@ ghost use Rattle.wh_order.specs.Sifted.{AreSifted, IsSifted};
 use crate::kept::{applied, filtered_symbol};
 use std::alloc::{AllocError, Global};
 use wh_order_node::Filters;
-use wh_terms::{MetaDecl, Term, Terms};
 use wh_order_trees::{Tree, Trees};
+use wh_terms::{MetaDecl, Term, Terms};
 use wh_types::SimpleType;
 
 /// The term behind the filters (Kop 2012).

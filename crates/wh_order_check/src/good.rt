@@ -20,13 +20,13 @@ ghost use Rattle.wh_order_check.specs.Found.{IsBadPairOf, IsBadRuleOf};
 
 use crate::fault::OrderingFault;
 use std::alloc::{AllocError, Global};
-use wh_order_inference::Inference;
 use wh_order::{check_inference, filtered_pair, filtered_rule};
+use wh_order_inference::Inference;
 use wh_order_node::Filters;
+use wh_order_trees::Tree;
 use wh_pairs::Pair;
 use wh_reduction_pairs::Task;
 use wh_system::System;
-use wh_order_trees::Tree;
 use wh_types::Or;
 
 /// Whether the inference of each rule that is to be covered is good; `Err` names the first bad one. No side is too

@@ -19,8 +19,8 @@ ghost use Rattle.wh_order_check.specs.Found.{IsWidePairOf, IsWideRuleOf};
 
 use crate::fault::OrderingFault;
 use std::alloc::{AllocError, Global};
-use wh_order_inference::Inference;
 use wh_order::{filtered_pair, filtered_rule};
+use wh_order_inference::Inference;
 use wh_order_node::Filters;
 use wh_pairs::Pair;
 use wh_reduction_pairs::Task;

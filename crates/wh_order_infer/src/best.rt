@@ -8,9 +8,9 @@ ghost use Rattle.wh_order_infer.specs.Bests.{IsBest, IsBestAt, IsBestBy, IsLeast
 
 use crate::ways::{LETTERS, goals_by, letter_at};
 use std::alloc::AllocError;
+use wh_order::Goal;
 use wh_order_inference::Letter;
 use wh_order_known::{Choice, Known, count_of, lesser};
-use wh_order::Goal;
 use wh_order_trees::arguments_of;
 use wh_types::{counted, sum};
 

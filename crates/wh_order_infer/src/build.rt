@@ -8,9 +8,9 @@ ghost use Rattle.wh_order_infer.specs.Bests.{AreLeastInferences, IsBest, IsLeast
 use crate::best::best;
 use crate::ways::{goals_by, made};
 use std::alloc::AllocError;
+use wh_order::Goal;
 use wh_order_inference::{Inference, Inferences, Letter};
 use wh_order_known::{Choice, Known};
-use wh_order::Goal;
 
 /// An inference with the fewest entries that shows the goal, nested at most `room` deep; `None` where each has 2^32 at
 /// least.

@@ -9,9 +9,9 @@ ghost use Rattle.wh_order_infer.specs.Lines.{IsFound};
 
 use crate::build::build;
 use std::alloc::{AllocError, Global};
+use wh_order::Goal;
 use wh_order_inference::Inference;
 use wh_order_known::{Known, strict_goal, weak_goal};
-use wh_order::Goal;
 use wh_order_node::Filters;
 use wh_order_trees::Tree;
 

@@ -8,8 +8,8 @@ ghost use Rattle.wh_order_node.specs.FilteringView.{filtering_data};
 ghost use Rattle.wh_order_infer.specs.Bests.{AreGoalsBy, letter_with};
 
 use std::alloc::{AllocError, Global};
-use wh_order_inference::{Inference, Inferences, Letter};
 use wh_order::{Claim, Goal, Goals, goals_of};
+use wh_order_inference::{Inference, Inferences, Letter};
 use wh_order_node::Filters;
 
 /// How many letters there are.

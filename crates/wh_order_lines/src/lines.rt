@@ -14,13 +14,13 @@ ghost use Rattle.wh_order_infer.specs.Lines.{IsFound};
 ghost use Rattle.wh_order_lines.specs.OrderLines.{IsAnyPairLineOrNone, IsLineBetween, IsPairLineOrNone, IsRuleLineOrNone};
 
 use std::alloc::{AllocError, Global};
+use wh_order::{filtered_pair, filtered_rule};
 use wh_order_infer::{find_greater, find_inference};
 use wh_order_inference::Inference;
-use wh_order::{filtered_pair, filtered_rule};
 use wh_order_node::Filters;
+use wh_order_trees::Tree;
 use wh_pairs::Pair;
 use wh_system::System;
-use wh_order_trees::Tree;
 use wh_types::Or;
 
 /// The inference of a pair, and whether it shows that its left side is greater.

@@ -18,9 +18,9 @@ use std::alloc::{AllocError, Global};
 use wh_order_demands::{
     Claim, Demand, Spot, both, demand_of, demand_of_filters, demand_of_orders, either,
 };
+use wh_order_sides::{extended_arguments, extended_rule};
 use wh_pairs::{Pair, call};
 use wh_reduction_pairs::Task;
-use wh_order_sides::{extended_arguments, extended_rule};
 use wh_system::System;
 use wh_terms::{Term, Terms};
 use wh_types::{Or, counted, sum};

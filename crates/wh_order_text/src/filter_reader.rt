@@ -8,8 +8,8 @@ ghost use Rattle.wh_order_text.specs.declared.filter_reader.FilterPlace.TheVaria
 
 use std::alloc::{AllocError, Global};
 use std::mem;
-use wh_order_inference::Filter;
 use wh_cert_letters::{first_number, next_number};
+use wh_order_inference::Filter;
 use wh_types::Numbers;
 
 /// The word that a filter begins with.

@@ -11,8 +11,8 @@ ghost use Rattle.wh_order_text.specs.InferenceViews.{opened, inference_stack, in
 
 use std::alloc::{AllocError, Global};
 use std::mem;
-use wh_order_inference::{Inference, Inferences, Letter};
 use wh_cert_letters::{first_number, next_number};
+use wh_order_inference::{Inference, Inferences, Letter};
 
 /// Inferences nest that deep.
 const DEEPEST_INFERENCE: usize = 64;

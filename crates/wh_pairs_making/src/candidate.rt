@@ -20,8 +20,8 @@ use crate::conditions::conditions_of;
 use crate::freed::{Freeing, freed_arguments, nullary};
 use std::alloc::{AllocError, Global};
 use std::rc::Rc;
-use wh_pairs_calls::{Call, spine_of};
 use wh_pairs::Pair;
+use wh_pairs_calls::{Call, spine_of};
 use wh_terms::{MetaDecl, Metas, Rule, Signature, Term, Terms, Types, copy_term};
 use wh_types::{SimpleType, counted, sum};
 

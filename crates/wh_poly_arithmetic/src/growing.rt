@@ -19,10 +19,10 @@ ghost use Rattle.wh_poly.specs.declared.polynomial.Monomial.{out-Monomial};
 use crate::products::product;
 use std::alloc::{AllocError, Global};
 use std::mem;
-use wh_poly_limits::{MAX_NESTING, MAX_WEIGHT, Room, fits, room_for, tested, weigh};
 use wh_poly::{
     Atom, Atoms, Excess, Monomial, Poly, Polys, copy, in_order, one_factor, push_copies,
 };
+use wh_poly_limits::{MAX_NESTING, MAX_WEIGHT, Room, fits, room_for, tested, weigh};
 use wh_types::Or;
 
 /// The product so far: a first value times a monomial.

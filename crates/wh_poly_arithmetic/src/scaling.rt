@@ -11,8 +11,8 @@ ghost use Rattle.wh_poly.specs.declared.polynomial.Monomial.{out-Monomial};
 
 use crate::totals::Total;
 use std::alloc::Global;
-use wh_poly_limits::light_row;
 use wh_poly::{Excess, Monomial, Poly, multiple, single_product};
+use wh_poly_limits::light_row;
 use wh_types::Or;
 
 /// A monomial times a value.

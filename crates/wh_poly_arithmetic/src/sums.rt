@@ -12,8 +12,8 @@ ghost use Rattle.wh_poly.specs.Merges.{FirstOfSum, EndsBefore};
 use std::alloc::{AllocError, Global};
 use std::cmp::Ordering;
 use std::collections::VecDeque;
-use wh_poly_limits::{add_first, tested};
 use wh_poly::{Excess, Monomial, Poly, order_factors, stands_before};
+use wh_poly_limits::{add_first, tested};
 use wh_types::Or;
 
 /// The sum of two values; a fault only where it exceeds a limit.

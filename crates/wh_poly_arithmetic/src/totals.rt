@@ -12,8 +12,8 @@ ghost use Rattle.wh_poly_arithmetic.specs.Totals.{IsTakenFrom};
 
 use crate::sums::sum_of_ordered;
 use std::alloc::Global;
-use wh_poly_limits::{MAX_NESTING, MAX_WEIGHT, coefficients_fit, tested, weigh};
 use wh_poly::{Excess, Poly};
+use wh_poly_limits::{MAX_NESTING, MAX_WEIGHT, coefficients_fit, tested, weigh};
 use wh_types::Or;
 
 /// A sum that grows by one value at a time.

@@ -16,10 +16,10 @@ use std::alloc::{AllocError, Global};
 use std::collections::VecDeque;
 use wh_cert::Node;
 use wh_poly_guesses::{Outcome, Weighing, arguments_of, guess_by, node_of_guess, uses_of};
+use wh_poly_space::{Spot, spots_of};
 use wh_polycheck::kind_of_mark;
 use wh_random::Random;
 use wh_reduction_pairs::Task;
-use wh_poly_space::{Spot, spots_of};
 use wh_system::System;
 use wh_types::SimpleType;
 

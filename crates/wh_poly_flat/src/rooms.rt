@@ -10,9 +10,9 @@ ghost use Rattle.wh_pairs.specs.PairData.{pair_data};
 ghost use Rattle.wh_usable_first_order.specs.FirstOrder.{AreFlatTrees, IsFirstOrder, IsFlatTree, IsNullary};
 ghost use Rattle.wh_poly_flat.specs.Flat.{IsFlatPair, IsFlatRule, call_occurrences, most_in_side, occurrences, occurrences_in, pair_occurrences, rule_occurrences};
 
-use wh_usable_first_order::{is_first_order, is_nullary, is_of_a_sort};
 use wh_pairs::Pair;
 use wh_terms::{MetaDecl, Rule, Signature, Term, Terms};
+use wh_usable_first_order::{is_first_order, is_nullary, is_of_a_sort};
 
 // So much may occur in one side.
 const MOST_IN_SIDE: u32 = 60;

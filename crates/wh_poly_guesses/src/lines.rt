@@ -21,10 +21,10 @@ ghost use Rattle.wh_poly_guesses.specs.Lines.{AreLinesOfPairs, AreRuleLines, IsF
 
 use crate::sides::{pair_side, rule_side};
 use std::alloc::{AllocError, Global};
-use wh_poly_moves::find_moves;
 use wh_hopoly::{Covers, Moves};
 use wh_pairs::Pair;
 use wh_poly::Poly;
+use wh_poly_moves::find_moves;
 use wh_polycheck::{Readings, check_strict};
 use wh_reduction_pairs::Task;
 use wh_system::System;

@@ -19,9 +19,9 @@ ghost use Rattle.wh_polycheck.specs.declared.marks.MarkedSymbol.{MarkedSymbol};
 use crate::guess::Guess;
 use std::alloc::{AllocError, Global};
 use wh_hopoly::Symbol;
+use wh_poly_space::{reading_of, spots_of};
 use wh_polycheck::{MarkedSymbol, kind_of_mark};
 use wh_reduction_pairs::Task;
-use wh_poly_space::{reading_of, spots_of};
 use wh_system::System;
 use wh_types::SimpleType;
 

@@ -11,8 +11,8 @@ use crate::bounds::{Coefficient, End, Ranges};
 use crate::plan::{Plan, Work};
 use crate::testing::{Goal, fails_at, is_out};
 use std::alloc::{AllocError, Global};
-use wh_reduction_pairs::Task;
 use wh_poly_space::MAX_COEFFICIENT;
+use wh_reduction_pairs::Task;
 
 /// That ends of one kind are cut off for a condition.
 #[derive(Clone, Copy)]

@@ -16,8 +16,8 @@ use crate::narrowing::narrow_all;
 use crate::plan::{Plan, Work};
 use std::alloc::{AllocError, Global};
 use wh_poly_guesses::sizes_of;
-use wh_reduction_pairs::Task;
 use wh_poly_space::MAX_COEFFICIENT;
+use wh_reduction_pairs::Task;
 
 /// Whether ranges of coefficients show that no interpretation of the space lets a pair of the set go. The search ends
 /// after so much work, a look at a condition or more where its sides are large, and then shows nothing.

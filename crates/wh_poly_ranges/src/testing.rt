@@ -13,9 +13,9 @@ ghost use Rattle.wh_poly_ranges.specs.Out.{IsOut, IsPairOut, IsRuleOut};
 use crate::bounds::Ranges;
 use crate::plan::Work;
 use std::alloc::{AllocError, Global};
+use wh_poly::Poly;
 use wh_poly_growth::is_refuted;
 use wh_poly_guesses::{Guess, pair_side, rule_side};
-use wh_poly::Poly;
 use wh_polycheck::Readings;
 use wh_reduction_pairs::Task;
 

@@ -16,12 +16,12 @@ use crate::walk::walk;
 use std::alloc::{AllocError, Global};
 use wh_access::find_ranks;
 use wh_cert::{Certificate, Nodes};
+use wh_cert_versions::certificate_of;
 use wh_find_loop::{LoopSearch, find_loop};
 use wh_graph::Graph;
 use wh_pairs::{PairList, numbers_below};
 use wh_system::System;
 use wh_types::{Or, Ranks};
-use wh_cert_versions::certificate_of;
 
 // How many terms a first, short search for loops keeps at most. It comes before the search for a proof, which may take
 // long where there is a loop.

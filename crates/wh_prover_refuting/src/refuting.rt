@@ -13,10 +13,10 @@ ghost use Rattle.wh_prover_refuting.specs.Verdicts.{IsOfSet, IsVerdict};
 
 use std::alloc::{AllocError, Global};
 use wh_find_subterm::projection_formula;
-use wh_sat_listed::{Listed, solve_listed};
 use wh_pairs::{PairList, PairSet};
 use wh_prover::{Answer, Cause, Options, prove};
 use wh_refute::check_refutation;
+use wh_sat_listed::{Listed, solve_listed};
 use wh_sat_trail::{Formula, Refutation};
 use wh_system::System;
 use wh_types::Or;

@@ -10,9 +10,9 @@ use crate::fault::SyntaxFault;
 use crate::parsing::parse;
 use crate::reasons::{Reason, Refused};
 use std::alloc::Global;
+use wh_system::System;
 use wh_system_making::system_of;
 use wh_system_parts::SystemFault;
-use wh_system::System;
 use wh_text::{TextFault, tokens};
 use wh_types::Or;
 

@@ -9,9 +9,9 @@ ghost use Rattle.wh_sat_listed.specs.Listing.{IsListed, IsShort};
 
 use crate::listing::refutation_of;
 use std::alloc::{AllocError, Global};
-use wh_sat_engine::{Attempt, is_model, run_engine};
 use wh_refute::check_refutation;
 use wh_sat::{Learner, Next, copy_clauses};
+use wh_sat_engine::{Attempt, is_model, run_engine};
 use wh_sat_trail::{Clauses, Entry, Formula, Refutation};
 use wh_types::Or;
 

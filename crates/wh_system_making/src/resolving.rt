@@ -10,9 +10,9 @@ ghost use Rattle.wh_system_making.specs.TablesOf.{AreTablesOf};
 
 use crate::tables::table_of;
 use std::alloc::{AllocError, Global};
+use wh_system::System;
 use wh_system_parts::{NameTable, resolve_type};
 use wh_system_resolve::{Scope, resolve_side};
-use wh_system::System;
 use wh_terms::{Metas, Term};
 use wh_text::{RawTerm, RawType};
 use wh_types::{Or, SimpleType};

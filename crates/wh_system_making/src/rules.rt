@@ -18,7 +18,9 @@ ghost use Rattle.wh_system_making.specs.RulesPassed.{AreResolvedRules};
 
 use crate::tables::list_of;
 use std::alloc::Global;
-use wh_system_parts::{Funs, NameTable, Parts, RawRule, SystemFault, check_side, declare_metas, offset};
+use wh_system_parts::{
+    Funs, NameTable, Parts, RawRule, SystemFault, check_side, declare_metas, offset,
+};
 use wh_system_resolve::{
     Scope, arguments_of, check_new_metas, check_open, check_pattern, head_of, resolve_side,
 };

@@ -16,18 +16,18 @@ ghost use Rattle.wh_tell_nodes.specs.Later.{LeavesProper};
 
 use std::alloc::{AllocError, Global};
 use wh_cert::OrderNode;
-use wh_order_inference::Inference;
-use wh_top_judging::Problem;
-use wh_poly_meaning::pairs_have_marked_sides;
 use wh_order::{TooWide, filtered_pair, filtered_rule};
-use wh_order_node::Filters;
 use wh_order_check::{Inferred, OrderingFault, check_ordering};
+use wh_order_inference::Inference;
+use wh_order_node::Filters;
+use wh_order_trees::Tree;
 use wh_pairs::PairSet;
+use wh_poly_meaning::pairs_have_marked_sides;
 use wh_proof::filters_of_lines;
 use wh_reduction_pairs::{Task, all_rules};
 use wh_tell::{Names, Text, names_of_rule, put_pair_line, put_rule_line, tell_line};
 use wh_tell_parts::{Comparison, is_within, put_dropped, put_filters, put_inferred};
-use wh_order_trees::Tree;
+use wh_top_judging::Problem;
 use wh_types::{Or, is_in};
 
 // What is said of lines that don't name what they have to name.

@@ -8,11 +8,11 @@ use crate::ordered::put_order;
 use crate::values::put_interpretation;
 use std::alloc::{AllocError, Global};
 use wh_cert::{Node, YesCertificate};
-use wh_top_judging::Problem;
 use wh_pairs::{PairSet, kept, numbers_below, set_of};
 use wh_tell::Piece::Count;
 use wh_tell::{Text, put_numbers, put_pairs, tell, tell_line};
 use wh_tell_parts::{Projected, put_projection};
+use wh_top_judging::Problem;
 use wh_types::counted;
 
 /// A set of pairs that a node is to deal with, and how deep that node stands in the tree.

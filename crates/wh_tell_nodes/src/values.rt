@@ -17,11 +17,10 @@ ghost use Rattle.wh_tell_nodes.specs.Later.{LeavesNormal};
 
 use std::alloc::{AllocError, Global};
 use wh_cert::PolyNode;
+use wh_pairs::PairSet;
 use wh_poly_covering::{CoveringFault, Evidence, check_covering};
 use wh_poly_guesses::{pair_side, rule_side};
-use wh_top_judging::Problem;
 use wh_poly_meaning::pairs_have_marked_sides;
-use wh_pairs::PairSet;
 use wh_polycheck::{Readings, interpretations_in_order_interpret};
 use wh_proof::{marks_of_set, rules_to_cover, symbols_of};
 use wh_reduction_pairs::Task;
@@ -29,6 +28,7 @@ use wh_tell::{Text, put_numbers, tell_line};
 use wh_tell_parts::{
     Valued, is_within, put_dropped, put_pair_values, put_readings, put_rule_values,
 };
+use wh_top_judging::Problem;
 use wh_types::{Or, is_in};
 
 // What is said of lines that don't name what they have to name.

@@ -1,7 +1,7 @@
 //! Trees behind argument filters, printed.
 
-use wh_tell::{Names, Text, put_bound, put_meta, put_name};
 use wh_order_trees::{Tree, Trees};
+use wh_tell::{Names, Text, put_bound, put_meta, put_name};
 
 // What stands around arguments, where there are any.
 #[derive(Clone, Copy)]

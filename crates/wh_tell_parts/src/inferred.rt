@@ -3,9 +3,9 @@
 use crate::filtered::put_filtered_tree;
 use wh_cert::{Filter, NamedFilter};
 use wh_order_inference::{Inference, Letter};
+use wh_order_trees::Tree;
 use wh_tell::Piece::{Number, Say, Spell};
 use wh_tell::{Names, Text, put_numbers, tell};
-use wh_order_trees::Tree;
 
 /// Appends what is left of each symbol; a mark stands behind the names of marked ones.
 pub fn put_filters<'a>(text: &mut Text, mark: &'a str, lines: &'a [NamedFilter], depth: u32) {

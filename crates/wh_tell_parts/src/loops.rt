@@ -3,8 +3,8 @@
 use crate::stepping::term_after;
 use std::alloc::{AllocError, Global};
 use wh_cert::{NoCertificate, Put};
-use wh_system_making::NameTables;
 use wh_system::System;
+use wh_system_making::NameTables;
 use wh_tell::Piece::{Count, Number, Spell};
 use wh_tell::{Names, Text, names_of_system, put_marked, put_rule_line, tell, tell_line};
 use wh_terms::{Step, Term};

@@ -6,8 +6,8 @@ ghost use Rattle.wh_pairs.specs.PairData.{pair_data};
 ghost use Rattle.wh_pairs.specs.SystemPairs.{HasPairs};
 
 use std::alloc::{AllocError, Global};
-use wh_pairs_making::pairs;
 use wh_pairs::PairList;
+use wh_pairs_making::pairs;
 use wh_read::read_system;
 use wh_system::System;
 

@@ -8,8 +8,8 @@ use crate::formulas::{are_within, clause_of, clauses_of};
 use crate::solver_rows::REFUSED;
 use std::alloc::{AllocError, Global};
 use std::test::Fail;
-use wh_sat_listed::{Listed, solve_listed};
 use wh_refute::{RefuteFault, check_refutation};
+use wh_sat_listed::{Listed, solve_listed};
 use wh_sat_trail::{Entry, Formula, Refutation};
 use wh_types::{Numbers, Or};
 

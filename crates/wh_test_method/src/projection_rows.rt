@@ -3,9 +3,9 @@
 use crate::method_rows::all_of;
 use std::alloc::{AllocError, Global};
 use std::test::Fail;
-use wh_pairs_making::pairs;
 use wh_find_subterm::{ProjectionFound, find_projection};
 use wh_pairs::PairList;
+use wh_pairs_making::pairs;
 use wh_read::read_system;
 use wh_sat::Search;
 use wh_system::System;

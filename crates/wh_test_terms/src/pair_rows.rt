@@ -4,8 +4,8 @@
 use crate::reading::read;
 use std::alloc::{AllocError, Global};
 use std::test::Fail;
-use wh_pairs_making::{pairs, subsumed};
 use wh_pairs::PairList;
+use wh_pairs_making::{pairs, subsumed};
 use wh_read::Refused;
 use wh_system::System;
 use wh_types::Or;

@@ -7,9 +7,9 @@ ghost use Rattle.wh_terms.specs.Measures.{Fits, Manageable};
 ghost use Rattle.wh_terms.specs.Sight.{IsTerm, LooseBelow};
 
 use std::alloc::{AllocError, Global};
-use wh_system_making::NameTables;
 use wh_read::{Refused, read_system};
 use wh_system::System;
+use wh_system_making::NameTables;
 use wh_terms::{Term, fits};
 use wh_text::RawTerm;
 use wh_types::Or;

@@ -8,8 +8,8 @@ use std::test::Fail;
 use wh_cert::Certificate;
 use wh_cert_print::print_certificate;
 use wh_cert_text::read_certificate;
-use wh_types::{Bytes, Or};
 use wh_cert_upgrade::upgrade;
+use wh_types::{Bytes, Or};
 
 /// Texts of certificates, each with a number of rules, and the texts of the upgraded ones.
 const UPGRADED: &[(&[u8], u32, &[u8])] = &[

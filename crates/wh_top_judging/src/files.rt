@@ -15,12 +15,12 @@ ghost use Rattle.wh_types.specs.declared.want.Or.TheVariants.{NoMemory, Because}
 
 use std::alloc::Global;
 use wh_answer::{ReasonWord, Report, Role};
-use wh_pairs_making::pairs;
 use wh_io::{ReadFault, Shelf, read_whole};
-use wh_top_naming::word_of;
 use wh_pairs::PairList;
+use wh_pairs_making::pairs;
 use wh_read::{Refused, read_system};
 use wh_system::System;
+use wh_top_naming::word_of;
 use wh_types::{Bytes, Or};
 
 /// How many bytes a system file may have.

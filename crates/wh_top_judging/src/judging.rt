@@ -21,9 +21,9 @@ use wh_answer::Report;
 use wh_cert::Certificate;
 use wh_checker::{Accepted, CheckFault, check, rejections_name_what_is_there};
 use wh_io::Shelf;
-use wh_top_naming::named_rejection;
-use wh_system_print::{print_pairs, print_system, printed_systems_are_read_back};
 use wh_system::System;
+use wh_system_print::{print_pairs, print_system, printed_systems_are_read_back};
+use wh_top_naming::named_rejection;
 use wh_types::{Bytes, Or};
 
 /// Checks the certificate in the second file against the system in the first one. Both files are read, the second one

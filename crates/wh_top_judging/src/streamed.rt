@@ -17,9 +17,9 @@ use crate::judging::told_of_check;
 use std::alloc::{AllocError, Global};
 use wh_answer::{NamedRejection, Report, Role};
 use wh_cert_text::{CertReader, Portion};
+use wh_checker_walk::Walk;
 use wh_io::{Next, Pieces, Shelf};
 use wh_types::Or;
-use wh_checker_walk::Walk;
 
 /// How many bytes are read at once.
 const PIECE: usize = 4096;

@@ -9,9 +9,9 @@ ghost use Rattle.wh_system.specs.SystemView.{system_data};
 ghost use Rattle.wh_top_reducing.specs.Telling.{Gives, GivesNone};
 
 use std::alloc::Global;
-use wh_system_making::NameTables;
-use wh_system::System;
 use wh_cert_term::read_term;
+use wh_system::System;
+use wh_system_making::NameTables;
 use wh_terms::{Term, fits};
 use wh_types::Or;
 

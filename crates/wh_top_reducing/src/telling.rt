@@ -11,9 +11,9 @@ ghost use Rattle.wh_top_reducing.specs.Telling.{GivesNone, TellsOf, TellsReduced
 
 use crate::given::{NotATerm, given_term};
 use std::alloc::{AllocError, Global};
-use wh_system_making::raw_term;
 use wh_step_outermost::{End, Reduced, reduce};
 use wh_system::System;
+use wh_system_making::raw_term;
 use wh_terms::Term;
 use wh_text::{print_number, print_term};
 use wh_types::{Bytes, Or};

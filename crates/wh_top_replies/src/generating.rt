@@ -23,11 +23,11 @@ use std::alloc::{AllocError, Global};
 use wh_answer::{Report, print_answer};
 use wh_cert::Certificate;
 use wh_gen::generate;
-use wh_top_judging::pairs_of;
 use wh_pairs::PairList;
 use wh_prover::{Answer, Cause, Options, prove};
 use wh_system::System;
 use wh_text::print_number;
+use wh_top_judging::pairs_of;
 use wh_types::{Bytes, Or, counted};
 
 /// The bounds of the search.

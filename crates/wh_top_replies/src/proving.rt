@@ -15,13 +15,13 @@ use std::alloc::{AllocError, Global};
 use wh_access::NoRanks;
 use wh_answer::{NamedCause, NamedFinder, Names, Report};
 use wh_io::Shelf;
-use wh_top_judging::{Problem, problem_in};
-use wh_top_naming::meta_name;
 use wh_prover::{Answer, Cause, Finder, Options, prove};
 use wh_system::System;
 use wh_text::Name;
-use wh_types::{Bytes, Numbers, Or};
+use wh_top_judging::{Problem, problem_in};
+use wh_top_naming::meta_name;
 use wh_top_upgrading::certificate_text;
+use wh_types::{Bytes, Numbers, Or};
 
 /// The text of a proof of termination of the system in the file, or of a loop, or why there is neither.
 pub fn prove_file<S: Shelf>(

@@ -10,9 +10,9 @@ ghost use Rattle.wh_top_replies.specs.Reducing.{IsNotReduced, StandsForReduction
 use std::alloc::Global;
 use wh_answer::{NamedRejection, Report};
 use wh_io::Shelf;
+use wh_system::System;
 use wh_top_judging::system_in;
 use wh_top_reducing::reduced_text;
-use wh_system::System;
 use wh_types::{Bytes, Or};
 
 /// The text that tells how the term reduces by the rules of the system in the file, by at most that many

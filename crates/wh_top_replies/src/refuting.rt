@@ -13,11 +13,11 @@ use crate::proving::name_cause;
 use std::alloc::{AllocError, Global};
 use wh_answer::{Report, print_answer};
 use wh_io::Shelf;
-use wh_top_judging::{Problem, problem_in};
 use wh_prover::{Answer, Options};
 use wh_prover_refuting::{Verdict, refute};
 use wh_system::System;
 use wh_text::print_number;
+use wh_top_judging::{Problem, problem_in};
 use wh_types::{Bytes, Or};
 
 /// The text that tells whether the search for a proof of the system in the file is stuck on a set of pairs, and whether

@@ -19,12 +19,12 @@ use crate::refuting::refute_file;
 use std::alloc::{AllocError, Global};
 use wh_answer::{Report, print_answer};
 use wh_io::Shelf;
+use wh_prover::Options;
 use wh_top_judging::{check_files, show_file};
 use wh_top_naming::{Status, status_of};
-use wh_prover::Options;
-use wh_types::{Bytes, Or};
 use wh_top_upgrading::upgrade_files;
 use wh_top_words::{Command, Limits};
+use wh_types::{Bytes, Or};
 
 /// A status and the text that goes with it.
 #[derive(Drop)]

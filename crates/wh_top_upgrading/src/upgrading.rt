@@ -20,10 +20,10 @@ use std::alloc::Global;
 use wh_answer::{NamedRejection, Report};
 use wh_cert::Certificate;
 use wh_cert_text::read_certificate;
+use wh_cert_upgrade::{upgrade, upgraded_has_text};
 use wh_io::Shelf;
 use wh_top_judging::{Problem, certificate_in, problem_in, weigh};
 use wh_types::{Bytes, Or};
-use wh_cert_upgrade::{upgrade, upgraded_has_text};
 
 /// The text of the certificate in the second file as one of the second version of the format, where a check accepts it
 /// for the system in the first file; else why there is none, as the check tells it, or that this text is too long. Both

@@ -15,11 +15,11 @@ ghost use Rattle.wh_usable.specs.Open.{IsFirstOpen, IsFirstOpenPair, IsFirstOpen
 
 use crate::calls::{MOST_SYMBOLS, calls_listed, each_calls_listed, look_up};
 use crate::sides::{are_flat, is_flat};
-use wh_usable_first_order::{is_of_a_sort, takes_sorts_first};
 use wh_pairs::Pair;
 use wh_reduction_pairs::Task;
 use wh_system::System;
 use wh_terms::{Rule, Signature};
+use wh_usable_first_order::{is_of_a_sort, takes_sorts_first};
 
 /// Why a list of rules is not closed for a set.
 #[derive(Clone, Copy)]

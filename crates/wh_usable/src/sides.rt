@@ -4,8 +4,8 @@ ghost use Rattle.std.specs.Prelude.{◌↔◌, IsTrue, map};
 ghost use Rattle.wh_terms.specs.Erase.{declared_metas, symbols, tm};
 ghost use Rattle.wh_usable_first_order.specs.FirstOrder.{AreFlatTrees, IsFlatTree};
 
-use wh_usable_first_order::{is_first_order, is_nullary};
 use wh_terms::{MetaDecl, Signature, Term};
+use wh_usable_first_order::{is_first_order, is_nullary};
 
 /// Whether the tree is first-order.
 pub fn is_flat(signature: &Signature, metas: &[MetaDecl], term: &Term) -> bool
