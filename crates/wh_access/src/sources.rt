@@ -78,7 +78,7 @@ pub fn way_from(alloc: Global, found: &[Source], start: usize) -> Result<Numbers
     requires apart { (j k : _) → j < k → k < length found.now → sort_at found.now j ≢ sort_at found.now k }
     ensures { IfOk result (IsWay (LeadsBy found.now) (sort_at found.now start) (sort_at found.now 0)) }
 {
-    let mut way = Numbers::new(alloc)?;
+    let mut way = Numbers::new(alloc);
     let mut at = start;
     way.push(found[at].sort)?;
     while at > 0 {

@@ -50,7 +50,7 @@ pub fn print_answer(alloc: Global, report: &Report) -> Result<Bytes, AllocError>
 fn fixed(alloc: Global, front: &[u8]) -> Result<Bytes, AllocError>
     ensures { IfOk result (λ text. text ≡ front.now) }
 {
-    let mut text = Bytes::new(alloc)?;
+    let mut text = Bytes::new(alloc);
     text.append(front)?;
     Ok(text)
 }

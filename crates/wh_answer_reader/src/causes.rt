@@ -106,7 +106,7 @@ fn finder_of(word: &str) -> Option<NamedFinder>
 fn names_of(alloc: Global, words: &[&str]) -> Result<Option<Names>, AllocError>
     ensures { IfOk result (λ found. MatchOption found (AllWords (seen words.now) → ⊥) (λ all. AllWords all × (all ≡ seen words.now))) }
 {
-    let mut names = Names::new(alloc)?;
+    let mut names = Names::new(alloc);
     for word in words {
         match name_of(alloc, word.as_bytes())? {
             Some(name) => names.push(name)?,
@@ -120,7 +120,7 @@ fn names_of(alloc: Global, words: &[&str]) -> Result<Option<Names>, AllocError>
 fn numbers_of(alloc: Global, words: &[&str]) -> Result<Option<Numbers>, AllocError>
     ensures { IfOk result (Reads AllShort (map decimal) (seen words.now)) }
 {
-    let mut numbers = Numbers::new(alloc)?;
+    let mut numbers = Numbers::new(alloc);
     for word in words {
         match short_number(word) {
             Some(number) => numbers.push(number)?,

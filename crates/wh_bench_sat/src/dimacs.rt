@@ -14,9 +14,9 @@ pub fn read(alloc: Global, text: &str) -> Result<Formula, AllocError>
 {
     let mut formula = Formula {
         variables: 0,
-        clauses: Clauses::new(alloc)?,
+        clauses: Clauses::new(alloc),
     };
-    let mut clause = Clause::new(alloc)?;
+    let mut clause = Clause::new(alloc);
     for line in text.lines() {
         if line.starts_with('p') {
             formula.variables = head(line)?;
@@ -48,7 +48,7 @@ fn read_line(
         let number: i32 = word.parse().or(Err(AllocError))?;
         if number == 0 {
             clauses.push(clause)?;
-            clause = Clause::new(alloc)?;
+            clause = Clause::new(alloc);
         } else {
             clause.push(literal_of(number))?;
         }

@@ -46,7 +46,7 @@ fn add_hints(text: &mut String, entry: &Entry) -> Result<(), AllocError> {
 
 /// The list of a text; its lines are taken in their order, whatever their own numbers are.
 pub fn read_list(alloc: Global, text: &str) -> Result<Refutation, AllocError> {
-    let mut list = Refutation::new(alloc)?;
+    let mut list = Refutation::new(alloc);
     for line in text.lines() {
         list.push(read_entry(alloc, line)?)?;
     }
@@ -55,8 +55,8 @@ pub fn read_list(alloc: Global, text: &str) -> Result<Refutation, AllocError> {
 
 // The entry of a line.
 fn read_entry(alloc: Global, line: &str) -> Result<Entry, AllocError> {
-    let mut clause = Clause::new(alloc)?;
-    let mut hints = Numbers::new(alloc)?;
+    let mut clause = Clause::new(alloc);
+    let mut hints = Numbers::new(alloc);
     let mut closed = false;
     for word in line.split_whitespace().skip(1) {
         let number: i32 = word.parse().or(Err(AllocError))?;

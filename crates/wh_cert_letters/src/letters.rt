@@ -39,7 +39,7 @@ impl Letters {
         requires { is_start byte ≡ true }
         ensures { IfOk result (λ letters. letters ≡ byte ∷ []) }
     {
-        let mut bytes = Bytes::new(alloc)?;
+        let mut bytes = Bytes::new(alloc);
         bytes.push(byte)?;
         Ok(Letters { bytes })
     }

@@ -58,10 +58,10 @@ impl OrderLines {
         ensures place { IfOk result (λ lines. lines_place lines ≡ lines_front) }
     {
         Ok(OrderLines {
-            lists: Sections::new(alloc)?,
+            lists: Sections::new(alloc),
             place: OrderPlace::Front,
             name: Letters::new(alloc, b'a')?,
-            filter: FilterText::new(alloc)?,
+            filter: FilterText::new(alloc),
             inference: InferenceText::new(alloc)?,
         })
     }
@@ -93,10 +93,10 @@ impl OrderLines {
         ensures { IfOk result (λ node. said_order node ≡ node_of (lines_of self.old) drop) }
     {
         self.lists.enter_pairs(alloc)?;
-        let funs = mem::replace(&mut self.lists.funs, NamedFilters::new(alloc)?);
-        let marks = mem::replace(&mut self.lists.marks, NamedFilters::new(alloc)?);
-        let rules = mem::replace(&mut self.lists.rules, Inferences::new(alloc)?);
-        let pairs = mem::replace(&mut self.lists.pairs, Inferences::new(alloc)?);
+        let funs = mem::replace(&mut self.lists.funs, NamedFilters::new(alloc));
+        let marks = mem::replace(&mut self.lists.marks, NamedFilters::new(alloc));
+        let rules = mem::replace(&mut self.lists.rules, Inferences::new(alloc));
+        let pairs = mem::replace(&mut self.lists.pairs, Inferences::new(alloc));
         Ok(OrderNode {
             funs,
             marks,
@@ -155,7 +155,7 @@ impl OrderLines {
         if byte != b' ' {
             return Ok(LinesStep::Wrong);
         }
-        self.filter = FilterText::new(alloc)?;
+        self.filter = FilterText::new(alloc);
         self.place = OrderPlace::Filter;
         Ok(LinesStep::On)
     }

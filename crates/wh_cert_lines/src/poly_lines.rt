@@ -72,11 +72,11 @@ impl PolyLines {
         ensures place { IfOk result (λ lines. lines_place lines ≡ lines_front) }
     {
         Ok(PolyLines {
-            lists: Sections::new(alloc)?,
+            lists: Sections::new(alloc),
             place: LinesPlace::Front,
             name: Letters::new(alloc, b'a')?,
             poly: PolyText::new(alloc)?,
-            moves: Moves::new(alloc)?,
+            moves: Moves::new(alloc),
             from: 0,
             to: 0,
         })
@@ -100,7 +100,7 @@ impl PolyLines {
         match section {
             Section::Funs | Section::Marks => self.place = LinesPlace::NameWanted,
             Section::Rules | Section::Pairs => {
-                self.moves = Moves::new(alloc)?;
+                self.moves = Moves::new(alloc);
                 self.place = LinesPlace::Moves;
             }
         }
@@ -118,10 +118,10 @@ impl PolyLines {
         ensures { IfOk result (λ node. said_poly node ≡ node_of usable (lines_of self.old) drop) }
     {
         self.lists.enter_pairs(alloc)?;
-        let funs = mem::replace(&mut self.lists.funs, Interps::new(alloc)?);
-        let marks = mem::replace(&mut self.lists.marks, Interps::new(alloc)?);
-        let rules = mem::replace(&mut self.lists.rules, Covers::new(alloc)?);
-        let pairs = mem::replace(&mut self.lists.pairs, Covers::new(alloc)?);
+        let funs = mem::replace(&mut self.lists.funs, Interps::new(alloc));
+        let marks = mem::replace(&mut self.lists.marks, Interps::new(alloc));
+        let rules = mem::replace(&mut self.lists.rules, Covers::new(alloc));
+        let pairs = mem::replace(&mut self.lists.pairs, Covers::new(alloc));
         Ok(PolyNode {
             usable,
             funs,
@@ -230,7 +230,7 @@ impl PolyLines {
         if byte != b'\n' {
             return Ok(LinesStep::Wrong);
         }
-        let moves = mem::replace(&mut self.moves, Moves::new(alloc)?);
+        let moves = mem::replace(&mut self.moves, Moves::new(alloc));
         self.lists.push_shown(moves)?;
         self.place = LinesPlace::Front;
         Ok(LinesStep::On)

@@ -64,23 +64,23 @@ pub struct Sections<N, L> {
 
 impl<N: Drop, L: Drop> Sections<N, L> {
     /// Before all lines.
-    pub fn new(alloc: Global) -> Result<Self, AllocError>
-        ensures { IfOk result (λ lines. lines_of lines ≡ in_funs []) }
+    pub fn new(alloc: Global) -> Self
+        ensures { lines_of result ≡ in_funs [] }
     {
-        Ok(Sections {
+        Sections {
             section: Section::Funs,
-            funs: List::new(alloc)?,
-            marks: List::new(alloc)?,
-            rules: List::new(alloc)?,
-            pairs: List::new(alloc)?,
-        })
+            funs: List::new(alloc),
+            marks: List::new(alloc),
+            rules: List::new(alloc),
+            pairs: List::new(alloc),
+        }
     }
 
     /// Before all lines again.
     pub fn restart(&mut self, alloc: Global) -> Result<(), AllocError>
         ensures { OnOk result (lines_of self.new ≡ in_funs []) }
     {
-        self.funs = List::new(alloc)?;
+        self.funs = List::new(alloc);
         self.section = Section::Funs;
         Ok(())
     }
@@ -90,7 +90,7 @@ impl<N: Drop, L: Drop> Sections<N, L> {
         ensures { OnOk result (lines_of self.new ≡ to_marks (lines_of self.old)) }
     {
         if matches!(self.section, Section::Funs) {
-            self.marks = List::new(alloc)?;
+            self.marks = List::new(alloc);
             self.section = Section::Marks;
         }
         Ok(())
@@ -102,7 +102,7 @@ impl<N: Drop, L: Drop> Sections<N, L> {
     {
         self.enter_marks(alloc)?;
         if matches!(self.section, Section::Marks) {
-            self.rules = List::new(alloc)?;
+            self.rules = List::new(alloc);
             self.section = Section::Rules;
         }
         Ok(())
@@ -115,7 +115,7 @@ impl<N: Drop, L: Drop> Sections<N, L> {
     {
         self.enter_rules(alloc)?;
         if matches!(self.section, Section::Rules) {
-            self.pairs = List::new(alloc)?;
+            self.pairs = List::new(alloc);
         }
         self.section = Section::Pairs;
         Ok(())

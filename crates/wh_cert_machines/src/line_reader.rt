@@ -112,18 +112,18 @@ pub enum LineStep {
 
 impl NoLine {
     /// Before the certificate's second byte.
-    pub fn new(alloc: Global) -> Result<NoLine, AllocError>
-        ensures { IfOk result (λ line. line.place ≡ Word behind.Term 1) }
+    pub fn new(alloc: Global) -> NoLine
+        ensures { result.place ≡ Word behind.Term 1 }
     {
-        Ok(NoLine {
+        NoLine {
             place: LinePlace::Word(Behind::Term, 1),
-            path: Path::new(alloc)?,
+            path: Path::new(alloc),
             frames: Vec::new(alloc),
             part: TermPlace::Wanted,
             types: Vec::new(alloc),
             type_part: TypePlace::Wanted,
             kind: None,
-        })
+        }
     }
 
     /// The step from a place in the line.
@@ -255,11 +255,11 @@ impl NoLine {
             }
             Behind::Rule => self.place = LinePlace::Rule,
             Behind::Path(rule) => {
-                self.path = Path::new(alloc)?;
+                self.path = Path::new(alloc);
                 self.place = LinePlace::StepPath(rule);
             }
             Behind::At => {
-                self.path = Path::new(alloc)?;
+                self.path = Path::new(alloc);
                 self.place = LinePlace::AtPath;
             }
             Behind::Put => self.place = LinePlace::PutVariable,
@@ -304,7 +304,7 @@ impl NoLine {
             b'0' => self.path.push(0)?,
             b'1' => self.path.push(1)?,
             b'\n' => {
-                let path = mem::replace(&mut self.path, Path::new(alloc)?);
+                let path = mem::replace(&mut self.path, Path::new(alloc));
                 self.place = LinePlace::Line;
                 return Ok(LineStep::Gives(Item::Step(Step { rule, path })));
             }
@@ -322,7 +322,7 @@ impl NoLine {
             b'0' => self.path.push(0)?,
             b'1' => self.path.push(1)?,
             b'\n' => {
-                let path = mem::replace(&mut self.path, Path::new(alloc)?);
+                let path = mem::replace(&mut self.path, Path::new(alloc));
                 self.place = LinePlace::LaterLine;
                 return Ok(LineStep::Gives(Item::At(path)));
             }

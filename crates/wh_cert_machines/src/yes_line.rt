@@ -167,9 +167,9 @@ impl YesLine {
     {
         Ok(YesLine {
             place: YesPlace::Word(YesBehind::Version, 1),
-            numbers: Numbers::new(alloc)?,
-            parts: Blocks::new(alloc)?,
-            args: Args::new(alloc)?,
+            numbers: Numbers::new(alloc),
+            parts: Blocks::new(alloc),
+            args: Args::new(alloc),
             name: None,
             usable: None,
             lines: Box::new(alloc, PolyLines::new(alloc)?)?,
@@ -237,7 +237,7 @@ impl YesLine {
         match behind {
             YesBehind::Version => self.place = YesPlace::VersionWanted,
             YesBehind::List(of) => {
-                self.numbers = Numbers::new(alloc)?;
+                self.numbers = Numbers::new(alloc);
                 self.place = YesPlace::Listed(of);
             }
             YesBehind::Pairs => self.place = YesPlace::NumberWanted(Counted::Pairs),
@@ -251,7 +251,7 @@ impl YesLine {
             }
             YesBehind::Blocks => self.place = YesPlace::NumberWanted(Counted::Blocks),
             YesBehind::Subterm => {
-                self.args = Args::new(alloc)?;
+                self.args = Args::new(alloc);
                 self.place = YesPlace::ArgFront;
             }
             YesBehind::Name => self.place = YesPlace::NameWanted,
@@ -312,7 +312,7 @@ impl YesLine {
     fn end_list(&mut self, alloc: Global, of: Listed) -> Result<YesStep, AllocError>
         ensures { IfOk result (λ went. yes_went went self.new ≡ list_ended (listed_of of self.old) self.old.numbers) }
     {
-        let numbers = mem::replace(&mut self.numbers, Numbers::new(alloc)?);
+        let numbers = mem::replace(&mut self.numbers, Numbers::new(alloc));
         match of {
             Listed::Ranks => {
                 self.place = YesPlace::Word(YesBehind::Pairs, 0);
@@ -323,7 +323,7 @@ impl YesLine {
                 self.end_block(alloc, left)
             }
             Listed::Drop => {
-                let args = mem::replace(&mut self.args, Args::new(alloc)?);
+                let args = mem::replace(&mut self.args, Args::new(alloc));
                 self.place = YesPlace::Front;
                 let node = Node::Subterm {
                     args,
@@ -407,7 +407,7 @@ impl YesLine {
             self.place = YesPlace::Word(YesBehind::List(Listed::Block(left - 1)), 0);
             return Ok(YesStep::On);
         }
-        let parts = mem::replace(&mut self.parts, Blocks::new(alloc)?);
+        let parts = mem::replace(&mut self.parts, Blocks::new(alloc));
         self.place = YesPlace::Front;
         Ok(YesStep::Gives(YesItem::Node(Node::Blocks(parts))))
     }
@@ -469,7 +469,7 @@ impl YesLine {
         if byte != b'\n' {
             return Ok(YesStep::Wrong);
         }
-        self.parts = Blocks::new(alloc)?;
+        self.parts = Blocks::new(alloc);
         self.end_block(alloc, number)
     }
 

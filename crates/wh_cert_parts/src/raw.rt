@@ -18,7 +18,7 @@ pub fn functional(args: RawTypes, sort: Name) -> RawType
 pub fn sort(alloc: Global, name: Name) -> Result<RawType, AllocError>
     ensures { IfOk result (λ kind. rty kind ≡ raw_type no_types name 0) }
 {
-    Ok(functional(RawTypes::new(alloc)?, name))
+    Ok(functional(RawTypes::new(alloc), name))
 }
 
 /// The abstraction with this binder, its type and its body.

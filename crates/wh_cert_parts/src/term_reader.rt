@@ -384,7 +384,7 @@ fn end_head(
         return Ok(TermStep::Wrong);
     }
     let head = Box::new(alloc, term)?;
-    open_term(stack, Frame::Spine(head, RawTerms::new(alloc)?))?;
+    open_term(stack, Frame::Spine(head, RawTerms::new(alloc)))?;
     Ok(TermStep::Goes(TermPlace::Wanted))
 }
 

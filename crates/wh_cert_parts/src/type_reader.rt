@@ -127,7 +127,7 @@ fn begin_type(alloc: Global, stack: &mut Vec<RawTypes>, byte: u8) -> Result<Type
         return Ok(TypeStep::Goes(TypePlace::Name(Letters::new(alloc, byte)?)));
     }
     if opens(stack, byte) {
-        open_type(stack, RawTypes::new(alloc)?)?;
+        open_type(stack, RawTypes::new(alloc))?;
         return Ok(TypeStep::Goes(TypePlace::Wanted));
     }
     Ok(TypeStep::Wrong)

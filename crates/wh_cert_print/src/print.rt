@@ -21,7 +21,7 @@ use wh_types::{Bytes, Numbers};
 pub fn print_certificate(alloc: Global, certificate: &Certificate) -> Result<Bytes, AllocError>
     ensures { IfOk result (λ bytes. bytes ≡ text (said certificate.now)) }
 {
-    let mut out = Bytes::new(alloc)?;
+    let mut out = Bytes::new(alloc);
     match certificate {
         Certificate::Yes(certificate) => print_yes(&mut out, certificate)?,
         Certificate::No(certificate) => print_no(&mut out, certificate)?,

@@ -158,7 +158,7 @@ impl CertReader {
                 self.go(Progress::Yes(lines), 1);
             }
             b'N' => {
-                let line = NoLine::new(self.alloc)?;
+                let line = NoLine::new(self.alloc);
                 let line = Box::new(self.alloc, line)?;
                 self.go(Progress::No(line), 1);
             }

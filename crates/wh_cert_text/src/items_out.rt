@@ -49,7 +49,7 @@ pub fn begin_yes(alloc: Global) -> Result<YesItems, AllocError>
     Ok(YesItems {
         line: YesLine::new(alloc)?,
         version: 0,
-        ranks: Numbers::new(alloc)?,
+        ranks: Numbers::new(alloc),
         wanted: 0,
     })
 }
@@ -113,7 +113,7 @@ fn hand_out(lines: &mut YesItems, alloc: Global, item: YesItem) -> Result<Option
         }
         YesItem::Pairs(pairs) => {
             lines.wanted = 1;
-            let ranks = mem::replace(&mut lines.ranks, Numbers::new(alloc)?);
+            let ranks = mem::replace(&mut lines.ranks, Numbers::new(alloc));
             Ok(Some(Item::YesHead {
                 version: lines.version,
                 ranks,

@@ -49,11 +49,11 @@ impl NoReader {
         ensures { IfOk result (λ reader. no_standing reader ≡ first_byte 78) }
     {
         Ok(NoReader {
-            line: Box::new(alloc, NoLine::new(alloc)?)?,
+            line: Box::new(alloc, NoLine::new(alloc))?,
             term: None,
-            steps: Steps::new(alloc)?,
+            steps: Steps::new(alloc),
             at: None,
-            puts: Puts::new(alloc)?,
+            puts: Puts::new(alloc),
         })
     }
 
@@ -65,7 +65,7 @@ impl NoReader {
         match item {
             Item::Term(term) => {
                 if self.term.is_none() {
-                    self.steps = Steps::new(alloc)?;
+                    self.steps = Steps::new(alloc);
                     self.at = None;
                     self.term = Some(term);
                 }
@@ -77,7 +77,7 @@ impl NoReader {
             }
             Item::At(at) => {
                 if self.term.is_some() && self.at.is_none() {
-                    self.puts = Puts::new(alloc)?;
+                    self.puts = Puts::new(alloc);
                     self.at = Some(at);
                 }
             }
@@ -161,9 +161,9 @@ impl YesReader {
         Ok(YesReader {
             line: YesLine::new(alloc)?,
             version: 0,
-            ranks: Numbers::new(alloc)?,
+            ranks: Numbers::new(alloc),
             pairs: 0,
-            nodes: Nodes::new(alloc)?,
+            nodes: Nodes::new(alloc),
             wanted: 0,
         })
     }

@@ -13,7 +13,7 @@ use wh_types::{Blocks, Numbers};
 pub fn copy_numbers(alloc: Global, numbers: &[u32]) -> Result<Numbers, AllocError>
     ensures { IfOk result (λ copies. copies ≡ numbers.now) }
 {
-    let mut copies = Numbers::new(alloc)?;
+    let mut copies = Numbers::new(alloc);
     for number in numbers {
         copies.push(*number)?;
     }
@@ -25,7 +25,7 @@ pub fn copy_numbers(alloc: Global, numbers: &[u32]) -> Result<Numbers, AllocErro
 pub fn numbers_below(alloc: Global, end: u32) -> Result<Numbers, AllocError>
     ensures { IfOk result (λ numbers. numbers ≡ numbers_from 0 end) }
 {
-    let mut numbers = Numbers::new(alloc)?;
+    let mut numbers = Numbers::new(alloc);
     for number in 0..end {
         numbers.push(number)?;
     }
@@ -36,7 +36,7 @@ pub fn numbers_below(alloc: Global, end: u32) -> Result<Numbers, AllocError>
 pub fn copy_blocks(alloc: Global, blocks: &[Numbers]) -> Result<Blocks, AllocError>
     ensures { IfOk result (λ copies. copies ≡ blocks.now) }
 {
-    let mut copies = Blocks::new(alloc)?;
+    let mut copies = Blocks::new(alloc);
     for block in blocks {
         copies.push(copy_numbers(alloc, block.as_slice())?)?;
     }
@@ -48,7 +48,7 @@ pub fn copy_path(alloc: Global, path: &[u8]) -> Result<Path, AllocError>
     requires { IsPath path.now }
     ensures { IfOk result (λ copy. copy ≡ path.now) }
 {
-    let mut copy = Path::new(alloc)?;
+    let mut copy = Path::new(alloc);
     for turn in path {
         copy.push(*turn)?;
     }

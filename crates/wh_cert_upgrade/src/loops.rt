@@ -29,7 +29,7 @@ pub fn copy_loop(alloc: Global, certificate: &NoCertificate) -> Result<NoCertifi
 fn copy_steps(alloc: Global, steps: &[Step]) -> Result<Steps, AllocError>
     ensures { IfOk result (λ copies. copies ≡ steps.now) }
 {
-    let mut copies = Steps::new(alloc)?;
+    let mut copies = Steps::new(alloc);
     for step in steps {
         copies.push(Step {
             rule: step.rule,
@@ -44,7 +44,7 @@ fn copy_steps(alloc: Global, steps: &[Step]) -> Result<Steps, AllocError>
 fn copy_puts(alloc: Global, puts: &[Put]) -> Result<Puts, AllocError>
     ensures { IfOk result (λ copies. map said_put copies ≡ map said_put puts.now) }
 {
-    let mut copies = Puts::new(alloc)?;
+    let mut copies = Puts::new(alloc);
     for put in puts {
         copies.push(copy_put(alloc, put)?)?;
     }

@@ -19,7 +19,7 @@ use wh_types::Numbers;
 pub fn copy_nodes(alloc: Global, nodes: &[Node]) -> Result<Nodes, AllocError>
     ensures { IfOk result (λ copies. map said_node copies ≡ map said_node nodes.now) }
 {
-    let mut copies = Nodes::new(alloc)?;
+    let mut copies = Nodes::new(alloc);
     for node in nodes {
         copies.push(copy_node(alloc, node)?)?;
     }
@@ -103,7 +103,7 @@ fn copy_order(alloc: Global, node: &OrderNode) -> Result<OrderNode, AllocError>
 fn copy_args(alloc: Global, args: &[Arg]) -> Result<Args, AllocError>
     ensures { IfOk result (λ copies. copies ≡ args.now) }
 {
-    let mut copies = Args::new(alloc)?;
+    let mut copies = Args::new(alloc);
     for arg in args {
         copies.push(Arg {
             name: copy_name(alloc, &arg.name)?,
@@ -118,7 +118,7 @@ fn copy_args(alloc: Global, args: &[Arg]) -> Result<Args, AllocError>
 fn copy_interps(alloc: Global, items: &[Interp]) -> Result<Interps, AllocError>
     ensures { IfOk result (λ copies. map said_interp copies ≡ map said_interp items.now) }
 {
-    let mut copies = Interps::new(alloc)?;
+    let mut copies = Interps::new(alloc);
     for item in items {
         copies.push(copy_interp(alloc, item)?)?;
     }
@@ -139,7 +139,7 @@ fn copy_interp(alloc: Global, item: &Interp) -> Result<Interp, AllocError>
 fn copy_covers(alloc: Global, items: &[Moves]) -> Result<Covers, AllocError>
     ensures { IfOk result (λ copies. copies ≡ items.now) }
 {
-    let mut copies = Covers::new(alloc)?;
+    let mut copies = Covers::new(alloc);
     for item in items {
         copies.push(copy_moves(alloc, item.as_slice())?)?;
     }
@@ -150,7 +150,7 @@ fn copy_covers(alloc: Global, items: &[Moves]) -> Result<Covers, AllocError>
 fn copy_moves(alloc: Global, items: &[Move]) -> Result<Moves, AllocError>
     ensures { IfOk result (λ copies. copies ≡ items.now) }
 {
-    let mut copies = Moves::new(alloc)?;
+    let mut copies = Moves::new(alloc);
     for item in items {
         copies.push(Move {
             from: item.from,
@@ -165,7 +165,7 @@ fn copy_moves(alloc: Global, items: &[Move]) -> Result<Moves, AllocError>
 fn copy_filters(alloc: Global, items: &[NamedFilter]) -> Result<NamedFilters, AllocError>
     ensures { IfOk result (λ copies. copies ≡ items.now) }
 {
-    let mut copies = NamedFilters::new(alloc)?;
+    let mut copies = NamedFilters::new(alloc);
     for item in items {
         copies.push(NamedFilter {
             name: copy_name(alloc, &item.name)?,

@@ -30,7 +30,7 @@ pub fn copy_type(alloc: Global, kind: &RawType) -> Result<RawType, AllocError>
 fn copy_types(alloc: Global, kinds: &RawTypes) -> Result<RawTypes, AllocError>
     ensures { IfOk result (λ copies. map rty copies ≡ map rty kinds.now) }
 {
-    let mut copies = RawTypes::new(alloc)?;
+    let mut copies = RawTypes::new(alloc);
     for kind in kinds.as_slice() {
         copies.push(copy_type(alloc, kind)?)?;
     }
@@ -82,7 +82,7 @@ pub fn copy_term(alloc: Global, term: &RawTerm) -> Result<RawTerm, AllocError>
 fn copy_terms(alloc: Global, terms: &RawTerms) -> Result<RawTerms, AllocError>
     ensures { IfOk result (λ copies. map rtm copies ≡ map rtm terms.now) }
 {
-    let mut copies = RawTerms::new(alloc)?;
+    let mut copies = RawTerms::new(alloc);
     for term in terms.as_slice() {
         copies.push(copy_term(alloc, term)?)?;
     }
@@ -109,7 +109,7 @@ pub fn copy_inference(alloc: Global, item: &Inference) -> Result<Inference, Allo
 pub fn copy_inferences(alloc: Global, items: &Inferences) -> Result<Inferences, AllocError>
     ensures { IfOk result (λ copies. map inference copies ≡ map inference items.now) }
 {
-    let mut copies = Inferences::new(alloc)?;
+    let mut copies = Inferences::new(alloc);
     for item in items.as_slice() {
         copies.push(copy_inference(alloc, item)?)?;
     }

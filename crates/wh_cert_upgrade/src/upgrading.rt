@@ -61,7 +61,7 @@ fn upgrade_yes(
 pub fn upgrade_nodes(alloc: Global, nodes: &[Node], rules: u32) -> Result<Nodes, AllocError>
     ensures { IfOk result (λ made. map said_node made ≡ map (upgraded_node rules) (map said_node nodes.now)) }
 {
-    let mut made = Nodes::new(alloc)?;
+    let mut made = Nodes::new(alloc);
     for node in nodes {
         made.push(upgrade_node(alloc, node, rules)?)?;
     }

@@ -11,7 +11,7 @@ pub fn path_of(alloc: Global, ways: &[u8]) -> Result<Path, AllocError>
     requires { IsPath ways.now }
     ensures { IfOk result (λ path. path ≡ ways.now) }
 {
-    let mut path = Path::new(alloc)?;
+    let mut path = Path::new(alloc);
     for way in ways {
         path.push(*way)?;
     }

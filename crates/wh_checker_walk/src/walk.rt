@@ -34,13 +34,13 @@ pub struct Walk {
 
 impl Walk {
     /// Before the first item.
-    pub fn new(alloc: Global) -> Result<Walk, AllocError>
-        ensures { IfOk result (λ walk. (d : SystemData) (ps : List PairData) → StandsFor d ps walk []) }
+    pub fn new(alloc: Global) -> Walk
+        ensures { (d : SystemData) (ps : List PairData) → StandsFor d ps result [] }
     {
-        Ok(Walk {
+        Walk {
             at: Place::Before,
             alloc,
-        })
+        }
     }
 
     /// Takes the next item of a certificate. System and pairs are the same at each call. Without memory the walk is at

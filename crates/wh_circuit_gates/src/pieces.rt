@@ -21,7 +21,7 @@ pub fn clauses_of_gate(alloc: Global, number: u32, of: &[Wire]) -> Result<Clause
 fn shorts_of(alloc: Global, number: u32, of: &[Wire]) -> Result<Clauses, AllocError>
     ensures { IfOk result (λ made. made ≡ shorts number of.now) }
 {
-    let mut clauses = Clauses::new(alloc)?;
+    let mut clauses = Clauses::new(alloc);
     for wire in of {
         clauses.push(short(alloc, number, *wire)?)?;
     }
@@ -32,7 +32,7 @@ fn shorts_of(alloc: Global, number: u32, of: &[Wire]) -> Result<Clauses, AllocEr
 fn long_of(alloc: Global, number: u32, of: &[Wire]) -> Result<Clause, AllocError>
     ensures { IfOk result (λ made. made ≡ yes number ∷ map negated of.now) }
 {
-    let mut clause = Clause::new(alloc)?;
+    let mut clause = Clause::new(alloc);
     clause.push(Wire {
         variable: number,
         positive: true,
@@ -50,7 +50,7 @@ fn long_of(alloc: Global, number: u32, of: &[Wire]) -> Result<Clause, AllocError
 fn short(alloc: Global, number: u32, wire: Wire) -> Result<Clause, AllocError>
     ensures { IfOk result (λ made. made ≡ no number ∷ wire ∷ []) }
 {
-    let mut clause = Clause::new(alloc)?;
+    let mut clause = Clause::new(alloc);
     clause.push(Wire {
         variable: number,
         positive: false,
@@ -77,7 +77,7 @@ pub fn negations_of(alloc: Global, of: &[Wire]) -> Result<Vec<Wire>, AllocError>
 pub fn wires_from(alloc: Global, of: &[Wire], from: usize) -> Result<Wires, AllocError>
     ensures { IfOk result (λ made. made ≡ drop from of.now) }
 {
-    let mut made = Wires::new(alloc)?;
+    let mut made = Wires::new(alloc);
     for place in from..of.len() {
         made.push(of[place])?;
     }

@@ -52,8 +52,8 @@ fn multiplied(
     ensures means { IfOk result (λ made. MeansNumber (gates_of circuit.new) made (λ v. number_of v a.now * number_of v b.now)) }
     ensures width { IfOk result (λ made. length made ≤ length a.now + length b.now) }
 {
-    let mut made = Wires::new(alloc)?;
-    let mut rest = Wires::new(alloc)?;
+    let mut made = Wires::new(alloc);
+    let mut rest = Wires::new(alloc);
     for wire in a {
         let sum = with_row(alloc, circuit, rest.as_slice(), *wire, b)?;
         made.push(sum.as_slice()[0])?;
@@ -94,7 +94,7 @@ fn row(alloc: Global, circuit: &mut Circuit, wire: Wire, b: &[Wire]) -> Result<W
     ensures means { IfOk result (λ made. MeansNumber (gates_of circuit.new) made (λ v. bit (literal_true v wire) * number_of v b.now)) }
     ensures width { IfOk result (λ made. length made ≡ length b.now) }
 {
-    let mut made = Wires::new(alloc)?;
+    let mut made = Wires::new(alloc);
     for digit in b {
         let both = circuit.both(wire, *digit)?;
         made.push(both)?;

@@ -57,7 +57,7 @@ pub fn added(
     ensures width { IfOk result (λ made. length made ≡ width + 1) }
 {
     let zero = circuit.falsity()?;
-    let mut made = Wires::new(alloc)?;
+    let mut made = Wires::new(alloc);
     let mut carry = zero;
     for i in 0..width {
         let digit = added_bits(circuit, bit_at(a, i, zero), bit_at(b, i, zero), carry)?;

@@ -36,7 +36,7 @@ fn all_of(alloc: Global, list: &PairList) -> Result<PairSet, AllocError>
     ensures { IfOk result (λ set. All (λ n. n < length list.now) set) }
 {
     let count = u32::try_from(list.as_slice().len()).or(Err(AllocError))?;
-    let mut set = PairSet::new(alloc)?;
+    let mut set = PairSet::new(alloc);
     for number in 0..count {
         set.push(number)?;
     }

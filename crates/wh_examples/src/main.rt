@@ -45,7 +45,7 @@ fn main(rt: HostRuntime) -> ExitCode {
 fn lines<R: Env + Files + AllocGlobal>(rt: &R) -> Result<Bytes, AllocError> {
     let alloc = rt.alloc();
     let mut shelf = FileShelf::new(rt);
-    let mut text = Bytes::new(alloc)?;
+    let mut text = Bytes::new(alloc);
     let mut sheet = Sheet::new(alloc)?;
     let mut task = Task::Answers;
     for word in env::args(rt).or(Err(AllocError))?.skip(1) {

@@ -107,7 +107,7 @@ pub fn lint_file<S: Shelf>(alloc: Global, shelf: &mut S, file: &str) -> Result<B
     ensures { IfBecause result (StandsBySystem (outside (S.held shelf.old) (S.faults shelf.old) (S.faults shelf.new)) file.now) }
 {
     let problem = problem_in(alloc, shelf, file)?;
-    let mut text = Text::new(alloc)?;
+    let mut text = Text::new(alloc);
     text.say("What follows is no part of what is proved.\n");
     put_lints(alloc, &mut text, &problem.system)?;
     Ok(text.into_bytes()?)
@@ -118,7 +118,7 @@ pub fn graph_file<S: Shelf>(alloc: Global, shelf: &mut S, file: &str) -> Result<
     ensures { IfBecause result (StandsBySystem (outside (S.held shelf.old) (S.faults shelf.old) (S.faults shelf.new)) file.now) }
 {
     let problem = problem_in(alloc, shelf, file)?;
-    let mut text = Text::new(alloc)?;
+    let mut text = Text::new(alloc);
     put_graph(alloc, &mut text, &problem.system, &problem.pairs)?;
     Ok(text.into_bytes()?)
 }
@@ -221,7 +221,7 @@ fn heading(accepted: bool) -> &'static str {
 
 // The rest of the first line.
 fn opening(alloc: Global) -> Result<Text, AllocError> {
-    let mut text = Text::new(alloc)?;
+    let mut text = Text::new(alloc);
     text.say(" What follows is no part of what is proved.\n");
     Ok(text)
 }
@@ -270,7 +270,7 @@ fn put_last(alloc: Global, text: &mut Text, system: &System) -> Result<(), Alloc
 fn joined(alloc: Global, first: &[u8], second: &[u8]) -> Result<Bytes, AllocError>
     ensures { IfOk result (λ text. text ≡ first.now ++ second.now) }
 {
-    let mut text = Bytes::new(alloc)?;
+    let mut text = Bytes::new(alloc);
     text.append(first)?;
     text.append(second)?;
     Ok(text)

@@ -32,7 +32,7 @@ fn inputs(alloc: Global, count: usize) -> Result<Circuit, AllocError>
     ensures count { IfOk result (λ made. length (gates_of made) ≡ count) }
     ensures required { IfOk result (λ made. required_of made ≡ []) }
 {
-    let mut circuit = Circuit::new(alloc)?;
+    let mut circuit = Circuit::new(alloc);
     for _ in 0..count {
         circuit.input()?;
     }

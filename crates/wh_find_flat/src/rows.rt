@@ -25,7 +25,7 @@ pub fn row(
         (λ v. bit (literal_true v wire) * number_of v number.now)) }
     ensures width { IfOk result (λ made. length made ≡ length number.now) }
 {
-    let mut made = Wires::new(alloc)?;
+    let mut made = Wires::new(alloc);
     for digit in number {
         made.push(circuit.and(&[wire, *digit])?)?;
     }

@@ -72,7 +72,7 @@ fn learner_for<'a>(
     ensures left { IfOk result (λ made. made.left ≡ budget) }
 {
     let variables = encoding.first_bits[encoding.scopes.len()];
-    let clauses = Clauses::new(alloc)?;
+    let clauses = Clauses::new(alloc);
     let learner = Learner::new(alloc, Formula { variables, clauses }, budget)?;
     Ok(learner)
 }

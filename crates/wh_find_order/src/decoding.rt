@@ -47,7 +47,7 @@ fn symbol_filters<'a>(
     ensures filters { MatchOr result (λ funs. AreFiltersFrom encoding.now (value_of values.now) 0 (map written_filter funs))
         (HasNoFilter encoding.now (value_of values.now)) }
 {
-    let mut funs = FilterList::new(alloc)?;
+    let mut funs = FilterList::new(alloc);
     for number in 0..symbols {
         let Some(filter) = filter_at(alloc, encoding, values, number)? else {
             return Err(Or::Because(number));
@@ -71,7 +71,7 @@ fn mark_filters<'a>(
     ensures filters { MatchOr result (λ marks. AreFiltersFrom encoding.now (value_of values.now) (symbols_in encoding.now)
         (map (λ m. written_filter m.filter) marks)) (HasNoFilter encoding.now (value_of values.now)) }
 {
-    let mut marks = MarkFilterList::new(alloc)?;
+    let mut marks = MarkFilterList::new(alloc);
     for (i, symbol) in encoding.marked.iter().enumerate() {
         let Some(filter) = filter_at(alloc, encoding, values, symbols + i)? else {
             return Err(Or::Because(symbols + i));

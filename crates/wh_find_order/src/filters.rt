@@ -53,7 +53,7 @@ fn places_by(
     requires { from + count < 2 ^ 32 }
     ensures { IfOk result (λ made. made ≡ places_from (value_of values.now) from 1 count) }
 {
-    let mut made = Numbers::new(alloc)?;
+    let mut made = Numbers::new(alloc);
     for place in 0..count {
         if bit(values, from + place) {
             made.push(place as u32 + 1)?;

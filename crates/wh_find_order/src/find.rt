@@ -69,7 +69,7 @@ fn find_order_of<'a>(
     ensures { IfOk result (IsAnswer (system_data task.now.system.now) (task_data task.now).pairs (task_data task.now).set budget) }
 {
     if budget == 0 {
-        let none = Clauses::new(alloc)?;
+        let none = Clauses::new(alloc);
         return Ok(Search::Spent(none));
     }
     let encoding = encoding_of(alloc, task, marked)?;

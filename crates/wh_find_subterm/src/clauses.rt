@@ -15,7 +15,7 @@ pub fn some_of(alloc: Global, first: u32, count: u32) -> Result<Clause, AllocErr
     requires { first + count < 2 ^ 32 }
     ensures { IfOk result (λ clause. clause ≡ some_of first count) }
 {
-    let mut clause = Clause::new(alloc)?;
+    let mut clause = Clause::new(alloc);
     for place in 0..count {
         clause.push(Literal {
             variable: first + place,
@@ -29,7 +29,7 @@ pub fn some_of(alloc: Global, first: u32, count: u32) -> Result<Clause, AllocErr
 fn not_both(alloc: Global, left: u32, right: u32) -> Result<Clause, AllocError>
     ensures { IfOk result (λ clause. clause ≡ not_both left right) }
 {
-    let mut clause = Clause::new(alloc)?;
+    let mut clause = Clause::new(alloc);
     if left < right {
         clause.push(negative(left))?;
     }

@@ -45,7 +45,7 @@ fn clauses_of(alloc: Global, rows: &Rows, cases: &[Case], count: u32) -> Result<
     requires each { All (λ r. r.first + r.need ≤ rows.now.end) rows.now.items.items }
     ensures { IfOk result (λ made. made ≡ clauses_of rows.now.items.items cases.now rows.now.end count) }
 {
-    let mut clauses = Clauses::new(alloc)?;
+    let mut clauses = Clauses::new(alloc);
     add_one_chosen(alloc, &mut clauses, &rows.items)?;
     add_only_one_chosen(alloc, &mut clauses, &rows.items)?;
     add_third(alloc, &mut clauses, cases)?;

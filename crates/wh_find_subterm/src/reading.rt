@@ -19,7 +19,7 @@ pub fn choices_by(alloc: Global, values: &[bool], rows: &[Row]) -> Result<Projec
     requires rows { All (λ r. r.first + r.need < length values.now) rows.now }
     ensures { IfOk result (λ args. map chosen args ≡ chosen_by (λ x. get_or values.now x false) rows.now) }
 {
-    let mut args = Projection::new(alloc)?;
+    let mut args = Projection::new(alloc);
     for row in rows {
         args.push(Choice {
             symbol: row.symbol,
@@ -58,7 +58,7 @@ pub fn below_under(
     requires args { IsIncreasing (chosen_symbols (map chosen args.now)) }
     ensures { IfOk result (IsBelowSet (map pair_data pairs.now) set.now (map chosen args.now) (length set.now)) }
 {
-    let mut drop = PairSet::new(alloc)?;
+    let mut drop = PairSet::new(alloc);
     for number in set {
         if is_below_in(&sight_of(pairs, numbered, *number), args) {
             drop.push(*number)?;

@@ -31,7 +31,7 @@ fn declared(alloc: Global, name: &[u8]) -> Result<RawName, AllocError>
 pub fn sorts(alloc: Global) -> Result<RawNames, AllocError>
     ensures { IfOk result (λ raw. map rname raw ≡ map raw_name sort_names) }
 {
-    let mut sorts = RawNames::new(alloc)?;
+    let mut sorts = RawNames::new(alloc);
     sorts.push(declared(alloc, b"nat")?)?;
     sorts.push(declared(alloc, b"list")?)?;
     Ok(sorts)
@@ -50,7 +50,7 @@ fn add_fun(alloc: Global, name: &[u8], kind: RawType, funs: &mut RawFuns) -> Res
 fn base(alloc: Global) -> Result<RawFuns, AllocError>
     ensures { IfOk result (λ raw. map rfun raw ≡ raw_base) }
 {
-    let mut funs = RawFuns::new(alloc)?;
+    let mut funs = RawFuns::new(alloc);
     add_fun(alloc, b"zero", nat(alloc)?, &mut funs)?;
     add_fun(alloc, b"s", step(alloc)?, &mut funs)?;
     add_fun(alloc, b"nil", list(alloc)?, &mut funs)?;
@@ -83,7 +83,7 @@ pub fn funs(alloc: Global, count: u32) -> Result<RawFuns, AllocError>
 pub fn function_meta(alloc: Global) -> Result<RawMeta, AllocError>
     ensures { IfOk result (λ raw. rmeta raw ≡ raw_f) }
 {
-    let mut args = RawTypes::new(alloc)?;
+    let mut args = RawTypes::new(alloc);
     args.push(nat(alloc)?)?;
     let name = declared(alloc, b"F")?;
     Ok(RawMeta {
@@ -101,7 +101,7 @@ pub fn plain_meta(alloc: Global, name: &[u8], kind: RawType) -> Result<RawMeta, 
     let name = declared(alloc, name)?;
     Ok(RawMeta {
         name,
-        args: RawTypes::new(alloc)?,
+        args: RawTypes::new(alloc),
         result: kind,
     })
 }

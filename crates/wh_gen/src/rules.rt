@@ -17,7 +17,7 @@ use wh_text::RawTerm;
 fn first_metas(alloc: Global) -> Result<RawMetas, AllocError>
     ensures { IfOk result (λ raw. map rmeta raw ≡ raw_f ∷ []) }
 {
-    let mut metas = RawMetas::new(alloc)?;
+    let mut metas = RawMetas::new(alloc);
     metas.push(function_meta(alloc)?)?;
     Ok(metas)
 }
@@ -131,7 +131,7 @@ fn add_rules(alloc: Global, number: u32, rules: &mut RawRules) -> Result<(), All
 pub fn rules(alloc: Global, count: u32) -> Result<RawRules, AllocError>
     ensures { IfOk result (λ raw. map rrule raw ≡ raw_rules count) }
 {
-    let mut rules = RawRules::new(alloc)?;
+    let mut rules = RawRules::new(alloc);
     for number in 0..count {
         add_rules(alloc, number, &mut rules)?;
     }

@@ -15,7 +15,7 @@ use wh_types::Bytes;
 pub fn map_name(alloc: Global, number: u32) -> Result<Name, AllocError>
     ensures { IfOk result (λ name. name ≡ map_name number) }
 {
-    let mut bytes = Bytes::new(alloc)?;
+    let mut bytes = Bytes::new(alloc);
     bytes.push(b'm')?;
     print_number(&mut bytes, number)?;
     Name::new(alloc, bytes.as_slice())
@@ -33,7 +33,7 @@ pub fn plain(alloc: Global, name: &[u8]) -> Result<RawTerm, AllocError>
 fn single(alloc: Global, term: RawTerm) -> Result<RawTerms, AllocError>
     ensures { IfOk result (λ terms. terms ≡ term ∷ []) }
 {
-    let mut terms = RawTerms::new(alloc)?;
+    let mut terms = RawTerms::new(alloc);
     terms.push(term)?;
     Ok(terms)
 }

@@ -22,21 +22,21 @@ fn over(alloc: Global, args: RawTypes, sort: &[u8]) -> Result<RawType, AllocErro
 pub fn nat(alloc: Global) -> Result<RawType, AllocError>
     ensures { IfOk result (λ raw. rty raw ≡ raw_nat) }
 {
-    over(alloc, RawTypes::new(alloc)?, b"nat")
+    over(alloc, RawTypes::new(alloc), b"nat")
 }
 
 /// `list`
 pub fn list(alloc: Global) -> Result<RawType, AllocError>
     ensures { IfOk result (λ raw. rty raw ≡ raw_list) }
 {
-    over(alloc, RawTypes::new(alloc)?, b"list")
+    over(alloc, RawTypes::new(alloc), b"list")
 }
 
 /// `nat -> nat`
 pub fn step(alloc: Global) -> Result<RawType, AllocError>
     ensures { IfOk result (λ raw. rty raw ≡ raw_step) }
 {
-    let mut args = RawTypes::new(alloc)?;
+    let mut args = RawTypes::new(alloc);
     args.push(nat(alloc)?)?;
     over(alloc, args, b"nat")
 }
@@ -45,7 +45,7 @@ pub fn step(alloc: Global) -> Result<RawType, AllocError>
 pub fn onto_lists(alloc: Global, first: RawType) -> Result<RawType, AllocError>
     ensures { IfOk result (λ raw. rty raw ≡ raw_onto_lists (rty first)) }
 {
-    let mut args = RawTypes::new(alloc)?;
+    let mut args = RawTypes::new(alloc);
     args.push(first)?;
     args.push(list(alloc)?)?;
     over(alloc, args, b"list")

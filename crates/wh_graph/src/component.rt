@@ -80,7 +80,7 @@ fn row_at_places(alloc: Global, row: &[u32], set: &[u32]) -> Result<Numbers, All
     requires few { length set.now < 2 ^ 32 }
     ensures { IfOk result (λ placed. (v : ℕ) → Contains placed v ↔ ((b : ℕ) × (slice_get set.now v ≡ Some b) × Contains row.now b)) }
 {
-    let mut placed = Numbers::new(alloc)?;
+    let mut placed = Numbers::new(alloc);
     for number in row {
         match set.binary_search(number) {
             Ok(place) => placed.push(place as u32)?,
@@ -122,7 +122,7 @@ fn fill(lists: &mut [Numbers], set: &[u32], of: &[Option<usize>]) -> Result<(), 
 fn blocks_of(alloc: Global, lists: Vec<Numbers>) -> Result<Blocks, AllocError>
     ensures { IfOk result (λ blocks. blocks ≡ lists.items) }
 {
-    let mut blocks = Blocks::new(alloc)?;
+    let mut blocks = Blocks::new(alloc);
     for list in lists {
         blocks.push(list)?;
     }

@@ -75,7 +75,7 @@ fn row_of(
     requires number { number < length pairs.now }
     ensures { IfOk result (λ row. (b : ℕ) → Contains row b ↔ Follows (system_data system.now).rules (map pair_data pairs.now) number b) }
 {
-    let mut row = Numbers::new(alloc)?;
+    let mut row = Numbers::new(alloc);
     for other in 0..count {
         if may_follow(system, &pairs[number as usize], &pairs[other as usize]) {
             row.push(other)?;
@@ -104,7 +104,7 @@ pub fn empty_lists(alloc: Global, count: usize) -> Result<Vec<Numbers>, AllocErr
 {
     let mut lists = Vec::new(alloc);
     for _ in 0..count {
-        lists.push(Numbers::new(alloc)?)?;
+        lists.push(Numbers::new(alloc))?;
     }
     Ok(lists)
 }

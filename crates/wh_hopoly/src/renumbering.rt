@@ -42,7 +42,7 @@ pub fn raise_factors(alloc: Global, us: &Atoms, from: u32, by: u32) -> Result<At
 pub fn raise_arguments(alloc: Global, ps: &Polys, from: u32, by: u32) -> Result<Polys, AllocError>
     ensures { IfOk result (λ r. polys r ≡ renumber_arguments (raised from by) (polys ps.now)) }
 {
-    let mut copies = Polys::new(alloc)?;
+    let mut copies = Polys::new(alloc);
     for item in ps.as_slice() {
         copies.push(raise(alloc, item, from, by)?)?;
     }

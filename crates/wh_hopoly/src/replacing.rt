@@ -274,7 +274,7 @@ fn replace_arguments<'a>(
     ensures fault { IfBecause result (λ e. PassesLimit
         (arguments_run (head_of replacement.now) replacement.now.variable (scope_of place.now.inner) (ty kind.now) (polys ps.now)) e) }
 {
-    let mut out = Polys::new(alloc)?;
+    let mut out = Polys::new(alloc);
     let mut here = kind;
     for item in ps.as_slice() {
         let SimpleType::Arrow(first, rest) = here else {

@@ -42,7 +42,7 @@ fn numbered(alloc: Global, pairs: &[Pair], table: &mut Table) -> Result<SidesLis
     ensures sides { IfOk result (λ sides. AreSides (trees table.new) sides (map pair_data pairs.now)) }
     ensures joins { Joins (trees table.old) (trees table.new) (IsPartOfSides (map pair_data pairs.now)) }
 {
-    let mut list = SidesList::new(alloc)?;
+    let mut list = SidesList::new(alloc);
     for place in 0..pairs.len() {
         let sides = sides_at(alloc, pairs, place, list.as_slice(), table)?;
         list.push(sides)?;
@@ -115,7 +115,7 @@ fn follows_its_rule(pairs: &[Pair], place: usize) -> bool
 fn copied(alloc: Global, numbers: &[u32]) -> Result<Numbers, AllocError>
     ensures { IfOk result (λ copy. copy ≡ numbers.now) }
 {
-    let mut copy = Numbers::new(alloc)?;
+    let mut copy = Numbers::new(alloc);
     for number in numbers {
         copy.push(*number)?;
     }
@@ -127,7 +127,7 @@ fn numbers_of(alloc: Global, terms: &[Term], table: &mut Table) -> Result<Number
     ensures numbers { IfOk result (λ ns. AreNumbersOf (trees table.new) ns (map tm terms.now)) }
     ensures joins { Joins (trees table.old) (trees table.new) (IsPartOfOne (map tm terms.now)) }
 {
-    let mut numbers = Numbers::new(alloc)?;
+    let mut numbers = Numbers::new(alloc);
     for term in terms {
         let number = table.add(term)?;
         numbers.push(number)?;

@@ -56,7 +56,7 @@ pub fn read_whole<S: Shelf>(
     ensures later { (other : List ℕ) → S.faults shelf.old other ≤ S.faults shelf.new other }
     ensures kept { (other : List ℕ) → S.held shelf.new other ≡ S.held shelf.old other }
 {
-    let mut bytes = Bytes::new(alloc)?;
+    let mut bytes = Bytes::new(alloc);
     let mut buffer = zeros(alloc, PIECE)?;
     let mut pieces = Pieces::new(limit);
     loop {

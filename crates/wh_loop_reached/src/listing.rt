@@ -137,7 +137,7 @@ fn copy_step(alloc: Global, step: &Step) -> Result<Step, AllocError>
 pub fn visits_of(alloc: Global, entries: Vec<Entry>) -> Result<Visits, AllocError>
     ensures { IfOk result (λ visits. visits ≡ map (λ e. e.visit) entries.items) }
 {
-    let mut visits = Visits::new(alloc)?;
+    let mut visits = Visits::new(alloc);
     for entry in entries {
         visits.push(entry.visit)?;
     }

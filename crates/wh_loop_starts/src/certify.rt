@@ -40,7 +40,7 @@ fn lines_of(alloc: Global, system: &System, entries: &[SubstEntry]) -> Result<Pu
     requires { All (IsPutOver (system_data system.now).symbols) (entry_puts entries.now) }
     ensures { IfOk result (λ lines. map said_put lines ≡ map (line_of (system_data system.now)) (entry_puts entries.now)) }
 {
-    let mut lines = Puts::new(alloc)?;
+    let mut lines = Puts::new(alloc);
     for entry in entries {
         lines.push(line_of(alloc, system, entry)?)?;
     }

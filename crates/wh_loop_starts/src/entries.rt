@@ -26,7 +26,7 @@ fn has_type(
     ensures { IfOk result (λ yes. MatchBool yes (Typed (symbols signature.now) [] [] (tm term.now) (ty kind.now))
         (Typed (symbols signature.now) [] [] (tm term.now) (ty kind.now) → ⊥)) }
 {
-    let no_metas = Metas::new(alloc)?;
+    let no_metas = Metas::new(alloc);
     match type_of(alloc, signature, &no_metas, term)? {
         Some(found) => Ok(same_type(&found, kind)),
         None => Ok(false),

@@ -34,7 +34,7 @@ fn path_of(alloc: Global, steps: &[u8]) -> Result<Path, AllocError>
     requires { IsPath steps.now }
     ensures { IfOk result (λ path. path ≡ steps.now) }
 {
-    let mut path = Path::new(alloc)?;
+    let mut path = Path::new(alloc);
     for step in steps {
         path.push(*step)?;
     }

@@ -34,7 +34,7 @@ pub fn path_of(alloc: Global, way: &[u8]) -> Result<Path, AllocError>
     requires { IsPath way.now }
     ensures { IfOk result (λ path. path ≡ way.now) }
 {
-    let mut path = Path::new(alloc)?;
+    let mut path = Path::new(alloc);
     for turn in way {
         path.push(*turn)?;
     }

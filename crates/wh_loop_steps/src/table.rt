@@ -28,7 +28,7 @@ impl Table {
     {
         let mut rows = Vec::new(alloc);
         for _ in 0..count {
-            rows.push(Numbers::new(alloc)?)?;
+            rows.push(Numbers::new(alloc))?;
         }
         Ok(Table { rows })
     }

@@ -33,7 +33,7 @@ pub fn match_pattern(
     ensures { IfOk result (λ found. MatchOption found (HasNoMatch (tm pattern.now) (tm term.now))
         (IsMatch (tm pattern.now) (tm term.now))) }
 {
-    let mut found = MetaSubst::new(alloc)?;
+    let mut found = MetaSubst::new(alloc);
     if match_under(alloc, pattern, term, 0, &mut found)? {
         Ok(Some(found))
     } else {

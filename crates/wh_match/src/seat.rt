@@ -196,7 +196,7 @@ fn bodies_of(
         ((bodies : Tms) → all_placed (tms seat.now.args.now) seat.now.depth inner bodies ≢ tms items.now)
         (λ bodies. all_placed (tms seat.now.args.now) seat.now.depth inner (tms bodies) ≡ tms items.now)) }
 {
-    let mut bodies = Terms::new(alloc)?;
+    let mut bodies = Terms::new(alloc);
     for item in items.as_slice() {
         let Some(body) = body_of(alloc, seat, item, inner)? else {
             return Ok(None);

@@ -31,7 +31,7 @@ fn has_type(
     ensures { IfOk result (λ yes. MatchBool yes (Typed (system_data system.now).symbols [] [] (tm term.now) (ty kind.now))
         (Typed (system_data system.now).symbols [] [] (tm term.now) (ty kind.now) → ⊥)) }
 {
-    let no_metas = Metas::new(alloc)?;
+    let no_metas = Metas::new(alloc);
     match type_of(alloc, system.signature(), &no_metas, term)? {
         Some(found) => Ok(same_type(&found, kind)),
         None => Ok(false),

@@ -50,7 +50,7 @@ pub fn filtered_symbol(
     let place = symbol as usize;
     if place >= funs.len() {
         // no filter is given, so no argument is kept
-        return Ok(Tree::Sym(symbol, Trees::new(alloc)?));
+        return Ok(Tree::Sym(symbol, Trees::new(alloc)));
     }
     match left_of(alloc, &funs[place], behind)? {
         Kept::Arguments(items) => Ok(Tree::Sym(symbol, items)),
@@ -77,7 +77,7 @@ pub fn filtered_mark(
             };
         }
     }
-    Ok(Tree::Mark(symbol, Trees::new(alloc)?))
+    Ok(Tree::Mark(symbol, Trees::new(alloc)))
 }
 
 // What the filter leaves of a symbol with these arguments, the first of them last.
@@ -98,7 +98,7 @@ fn nearest_first(alloc: Global, behind: Vec<Tree>) -> Result<Trees, AllocError>
     ensures { IfOk result (λ ts. ts ≡ reverse behind.items) }
 {
     let mut left = behind;
-    let mut items = Trees::new(alloc)?;
+    let mut items = Trees::new(alloc);
     while let Some(tree) = left.pop() {
         items.push(tree)?;
     }
@@ -112,7 +112,7 @@ fn chosen(alloc: Global, places: &[u32], behind: Vec<Tree>) -> Result<Trees, All
         → AreAt (map (λ p. p - 1) places.now) (reverse behind.items) ts) }
 {
     let mut left = behind;
-    let mut items = Trees::new(alloc)?;
+    let mut items = Trees::new(alloc);
     let mut wanted: usize = 0;
     let mut place: u32 = 0;
     while let Some(tree) = left.pop() {
@@ -142,7 +142,7 @@ fn picked(alloc: Global, place: u32, behind: Vec<Tree>) -> Result<Tree, AllocErr
     let wanted = place as usize;
     if wanted == 0 || wanted > left.len() {
         // no proper filter names such a place
-        return Ok(Tree::Sym(0, Trees::new(alloc)?));
+        return Ok(Tree::Sym(0, Trees::new(alloc)));
     }
     let at = left.len() - wanted;
     Ok(left.swap_remove(at))

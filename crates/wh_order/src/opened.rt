@@ -78,7 +78,7 @@ fn open_each(
         ≡ map (act (ups depth (cons (free number (ty kind.now)) bound)) (ups_free depth free)) (trees n items.now)) }
     ensures over { IfOk result (λ r. (n : ℕ) (w : World) → AllOver n w items.now → AllOver n w r) }
 {
-    let mut results = Trees::new(alloc)?;
+    let mut results = Trees::new(alloc);
     for item in items.as_slice() {
         results.push(open_under(alloc, item, number, kind, depth)?)?;
     }

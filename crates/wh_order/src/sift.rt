@@ -92,7 +92,7 @@ fn sift_each(
 ) -> Result<Trees, AllocError>
     ensures { IfOk result (AreSifted (filtering_data filters.now) (declared_metas metas.now) (map tm items.now)) }
 {
-    let mut results = Trees::new(alloc)?;
+    let mut results = Trees::new(alloc);
     for item in items.as_slice() {
         results.push(sift_before(alloc, filters, metas, item, Vec::new(alloc))?)?;
     }

@@ -64,7 +64,7 @@ fn build_each(
     ensures found { IfOk result (AreLeastInferences (filtering_data known.old.filters.now) room goals.now) }
     ensures filters { known.new.filters ≡ known.old.filters }
 {
-    let mut parts = Inferences::new(known.alloc)?;
+    let mut parts = Inferences::new(known.alloc);
     for goal in goals {
         match build(known, goal, room)? {
             Some(part) => parts.push(part)?,

@@ -79,7 +79,7 @@ fn goals_by_argument<'a>(
 fn strict_part(alloc: Global) -> Result<Inference, AllocError>
     ensures { IfOk result (λ i. inference i ≡ infer variable 0 no_parts) }
 {
-    Ok(made(Letter::Var, 0, Inferences::new(alloc)?))
+    Ok(made(Letter::Var, 0, Inferences::new(alloc)))
 }
 
 /// The inference of these parts.

@@ -40,7 +40,7 @@ pub fn copy_tree(alloc: Global, t: &Tree) -> Result<Tree, AllocError>
 fn copy_each(alloc: Global, items: &Trees) -> Result<Trees, AllocError>
     ensures { IfOk result (λ r. plains r ≡ plains items.now) }
 {
-    let mut results = Trees::new(alloc)?;
+    let mut results = Trees::new(alloc);
     for item in items.as_slice() {
         results.push(copy_tree(alloc, item)?)?;
     }

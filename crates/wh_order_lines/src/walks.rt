@@ -37,7 +37,7 @@ pub fn rule_lines<'a>(
     ensures { MatchOr result (λ lines. AreRuleLines (task_data task.now) (filtering_data filters.now) (map inference lines))
         (IsFailingRule (task_data task.now) (filtering_data filters.now)) }
 {
-    let mut lines = Inferences::new(alloc)?;
+    let mut lines = Inferences::new(alloc);
     for (i, rule) in task.covered.iter().enumerate() {
         let Some(line) = rule_line(alloc, task.system, filters, *rule)? else {
             return Err(Or::Because(i));
@@ -60,8 +60,8 @@ pub fn pair_lines<'a>(
     ensures { MatchOr result (AreLinesOfPairs (task_data task.now) (filtering_data filters.now))
         (IsFailingPair (task_data task.now) (filtering_data filters.now)) }
 {
-    let mut lines = Inferences::new(alloc)?;
-    let mut drop = Numbers::new(alloc)?;
+    let mut lines = Inferences::new(alloc);
+    let mut drop = Numbers::new(alloc);
     for (i, number) in task.set.iter().enumerate() {
         let pair = &task.pairs[*number as usize];
         let Some(line) = pair_line(alloc, task.system, filters, pair)? else {

@@ -184,7 +184,7 @@ fn cores_under<'a>(
         (tms items.now)) result }
     ensures kept { OnOk result (binders.new.items ≡ binders.old.items) }
 {
-    let mut results = Terms::new(alloc)?;
+    let mut results = Terms::new(alloc);
     let mut left = room;
     for item in items.as_slice() {
         let argument = argument_under(alloc, signature, metas, binders, item, left)?;

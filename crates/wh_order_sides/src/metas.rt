@@ -45,7 +45,7 @@ pub fn applied(alloc: Global, term: Term, next: u32, kind: &SimpleType) -> Resul
 pub fn copy_metas(alloc: Global, metas: &Metas) -> Result<Metas, AllocError>
     ensures { IfOk result (λ copies. declared_metas copies ≡ declared_metas metas.now) }
 {
-    let mut copies = Metas::new(alloc)?;
+    let mut copies = Metas::new(alloc);
     for declaration in metas.as_slice() {
         copies.push(copy_declaration(alloc, declaration)?)?;
     }
@@ -56,7 +56,7 @@ pub fn copy_metas(alloc: Global, metas: &Metas) -> Result<Metas, AllocError>
 fn copy_declaration(alloc: Global, declaration: &MetaDecl) -> Result<MetaDecl, AllocError>
     ensures { IfOk result (λ copy. declared_meta copy ≡ declared_meta declaration.now) }
 {
-    let mut args = Types::new(alloc)?;
+    let mut args = Types::new(alloc);
     for kind in declaration.args.as_slice() {
         args.push(kind.copy(alloc)?)?;
     }
@@ -71,7 +71,7 @@ fn constant(alloc: Global, kind: &SimpleType) -> Result<MetaDecl, AllocError>
     ensures { IfOk result (λ decl. declared_meta decl ≡ record { args = []; out = ty kind.now }) }
 {
     Ok(MetaDecl {
-        args: Types::new(alloc)?,
+        args: Types::new(alloc),
         result: kind.copy(alloc)?,
     })
 }
@@ -81,5 +81,5 @@ fn constant(alloc: Global, kind: &SimpleType) -> Result<MetaDecl, AllocError>
 fn nullary(alloc: Global, number: u32) -> Result<Term, AllocError>
     ensures { IfOk result (λ t. tm t ≡ meta number none) }
 {
-    Ok(Term::Meta(number, Terms::new(alloc)?))
+    Ok(Term::Meta(number, Terms::new(alloc)))
 }

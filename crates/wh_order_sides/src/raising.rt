@@ -49,7 +49,7 @@ fn raise_under(alloc: Global, term: &Term, depth: u32) -> Result<Term, AllocErro
 fn raise_each(alloc: Global, items: &Terms, depth: u32) -> Result<Terms, AllocError>
     ensures { IfOk result (λ r. tms r ≡ renames (past depth) (tms items.now)) }
 {
-    let mut results = Terms::new(alloc)?;
+    let mut results = Terms::new(alloc);
     for item in items.as_slice() {
         results.push(raise_under(alloc, item, depth)?)?;
     }

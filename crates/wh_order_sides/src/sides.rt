@@ -105,7 +105,7 @@ fn extended_list(
 ) -> Result<Terms, Or<TooWide>>
     ensures { BuildsCall (symbols signature.now) (declared_metas metas.now) (map tm items.now) result }
 {
-    let mut results = Terms::new(alloc)?;
+    let mut results = Terms::new(alloc);
     let mut left = without(MOST_SIZE, 1)?;
     for item in items.as_slice() {
         let argument = long(alloc, signature, metas, item, without(left, 1)?)?;

@@ -76,14 +76,14 @@ fn bytes_of(word: FilterWord) -> &'static [u8]
 
 impl FilterText {
     /// Before a filter.
-    pub fn new(alloc: Global) -> Result<FilterText, AllocError>
-        ensures { IfOk result (λ text. filter_place text ≡ wanted) }
+    pub fn new(alloc: Global) -> FilterText
+        ensures { filter_place result ≡ wanted }
     {
-        Ok(FilterText {
+        FilterText {
             place: FilterPlace::Wanted,
             prec: 0,
-            places: Numbers::new(alloc)?,
-        })
+            places: Numbers::new(alloc),
+        }
     }
 
     /// The step from a place in a filter.
@@ -170,7 +170,7 @@ impl FilterText {
             }
             None => {
                 self.prec = number;
-                self.places = Numbers::new(alloc)?;
+                self.places = Numbers::new(alloc);
                 self.end_number(alloc, byte)
             }
         }
@@ -213,7 +213,7 @@ impl FilterText {
             self.place = FilterPlace::PlaceWanted;
             return Ok(FilterStep::On);
         }
-        let places = mem::replace(&mut self.places, Numbers::new(alloc)?);
+        let places = mem::replace(&mut self.places, Numbers::new(alloc));
         Ok(FilterStep::Ended(Filter::Keep {
             prec: self.prec,
             places,

@@ -103,7 +103,7 @@ fn made(letter: Letter, place: u32, parts: Inferences) -> Inference
 fn leaf(alloc: Global, letter: Letter) -> Result<Inference, AllocError>
     ensures { IfOk result (λ i. inference i ≡ infer (l.letter letter) 0 no_parts) }
 {
-    Ok(made(letter, 0, Inferences::new(alloc)?))
+    Ok(made(letter, 0, Inferences::new(alloc)))
 }
 
 /// A part joins at the end.
@@ -245,7 +245,7 @@ impl InferenceText {
         ensures { IfOk result (λ s. went self.new byte s
             ≡ leads (inference_stack self.old.stack.items) (begun (l.letter letter) place) byte) }
     {
-        let parts = Inferences::new(alloc)?;
+        let parts = Inferences::new(alloc);
         if byte == b')' {
             return Ok(self.close(OpenInference {
                 letter,

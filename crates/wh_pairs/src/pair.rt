@@ -65,12 +65,12 @@ impl Model for PairSet {
 
 impl PairSet {
     /// The empty set.
-    pub fn new(alloc: Global) -> Result<PairSet, AllocError>
-        ensures { IfOk result (λ set. set ≡ []) }
+    pub fn new(alloc: Global) -> PairSet
+        ensures { result ≡ [] }
     {
-        Ok(PairSet {
+        PairSet {
             items: Vec::new(alloc),
-        })
+        }
     }
 
     /// The number joins at the end, above all that are there; without memory the set stays as it was.

@@ -12,7 +12,7 @@ use std::alloc::{AllocError, Global};
 pub fn numbers_below(alloc: Global, count: u32) -> Result<PairSet, AllocError>
     ensures { IfOk result (IsSetOf (λ n. n < count)) }
 {
-    let mut set = PairSet::new(alloc)?;
+    let mut set = PairSet::new(alloc);
     for number in 0..count {
         set.push(number)?;
     }
@@ -33,7 +33,7 @@ fn distinct(alloc: Global, sorted: &[u32]) -> Result<PairSet, AllocError>
     requires { IsNonDecreasing sorted.now }
     ensures { IfOk result (IsSetOf (Contains sorted.now)) }
 {
-    let mut set = PairSet::new(alloc)?;
+    let mut set = PairSet::new(alloc);
     for number in sorted {
         if is_above(&set, *number) {
             set.push(*number)?;
@@ -57,7 +57,7 @@ pub fn kept(alloc: Global, set: &PairSet, drop: &[u32]) -> Result<PairSet, Alloc
     ensures { IfOk result (IsSetOf (IsKept set.now drop.now)) }
 {
     let dropped = set_of(alloc, drop)?;
-    let mut rest = PairSet::new(alloc)?;
+    let mut rest = PairSet::new(alloc);
     for number in set.as_slice() {
         if dropped.as_slice().binary_search(number).is_err() {
             rest.push(*number)?;

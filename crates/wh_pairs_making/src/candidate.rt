@@ -30,7 +30,7 @@ fn constant(alloc: Global, kind: &SimpleType) -> Result<MetaDecl, AllocError>
     ensures { IfOk result (λ decl. declared_meta decl ≡ nullary (ty kind.now)) }
 {
     Ok(MetaDecl {
-        args: Types::new(alloc)?,
+        args: Types::new(alloc),
         result: kind.copy(alloc)?,
     })
 }
@@ -39,7 +39,7 @@ fn constant(alloc: Global, kind: &SimpleType) -> Result<MetaDecl, AllocError>
 fn copy_declaration(alloc: Global, declaration: &MetaDecl) -> Result<MetaDecl, AllocError>
     ensures { IfOk result (λ copy. declared_meta copy ≡ declared_meta declaration.now) }
 {
-    let mut args = Types::new(alloc)?;
+    let mut args = Types::new(alloc);
     for kind in declaration.args.as_slice() {
         args.push(kind.copy(alloc)?)?;
     }
@@ -53,7 +53,7 @@ fn copy_declaration(alloc: Global, declaration: &MetaDecl) -> Result<MetaDecl, A
 fn copy_metas(alloc: Global, metas: &Metas) -> Result<Metas, AllocError>
     ensures { IfOk result (λ copies. declared_metas copies ≡ declared_metas metas.now) }
 {
-    let mut copies = Metas::new(alloc)?;
+    let mut copies = Metas::new(alloc);
     for declaration in metas.as_slice() {
         copies.push(copy_declaration(alloc, declaration)?)?;
     }
@@ -94,7 +94,7 @@ fn candidate_metas(alloc: Global, metas: &Metas, kinds: &[&SimpleType]) -> Resul
 fn left_arguments(alloc: Global, arguments: &[&Term]) -> Result<Terms, AllocError>
     ensures { IfOk result (λ left. map tm left ≡ trees arguments.now) }
 {
-    let mut left = Terms::new(alloc)?;
+    let mut left = Terms::new(alloc);
     for argument in arguments {
         left.push(copy_term(alloc, argument)?)?;
     }

@@ -11,7 +11,7 @@ use wh_pairs::{Condition, Conditions};
 pub fn conditions_of(alloc: Global, conditions: &[Condition]) -> Result<Conditions, AllocError>
     ensures { IfOk result (λ list. list ≡ conditions.now) }
 {
-    let mut list = Conditions::new(alloc)?;
+    let mut list = Conditions::new(alloc);
     for condition in conditions {
         list.push(*condition)?;
     }

@@ -30,7 +30,7 @@ pub struct Freeing<'a> {
 pub fn nullary(alloc: Global, meta: u32) -> Result<Term, AllocError>
     ensures { IfOk result (λ r. tm r ≡ meta_tree meta none) }
 {
-    Ok(Term::Meta(meta, Terms::new(alloc)?))
+    Ok(Term::Meta(meta, Terms::new(alloc)))
 }
 
 // What stands for a bound variable where `depth` further binders were passed.
@@ -94,7 +94,7 @@ fn freed_each(
     ensures { IfOk result (λ r. tms r ≡ acts (ups depth (freed by.now.first (scope by.now.binders.now))) (ups_free depth free)
         (tms items.now)) }
 {
-    let mut results = Terms::new(alloc)?;
+    let mut results = Terms::new(alloc);
     for item in items.as_slice() {
         results.push(freed_under(alloc, by, item, depth)?)?;
     }
@@ -109,7 +109,7 @@ pub fn freed_arguments(
 ) -> Result<Terms, AllocError>
     ensures { IfOk result (λ r. map tm r ≡ map (act (freed by.now.first (scope by.now.binders.now)) free) (trees arguments.now)) }
 {
-    let mut results = Terms::new(alloc)?;
+    let mut results = Terms::new(alloc);
     for argument in arguments {
         results.push(freed_under(alloc, by, argument, 0)?)?;
     }

@@ -110,7 +110,7 @@ pub fn pairs(alloc: Global, system: &System) -> Result<PairList, Or<TooManyPairs
         (λ _. (list : List PairData) × ArePairs (candidates (system_data system.now).symbols (system_data system.now).rules) list
         × (most_pairs < length list)) }
 {
-    let mut list = PairList::new(alloc)?;
+    let mut list = PairList::new(alloc);
     for (i, rule) in system.rules().iter().enumerate() {
         let found = pairs_of_rule(alloc, system, counted(i)?, rule)?;
         if list.as_slice().len() + found.len() > MOST_PAIRS {

@@ -44,7 +44,7 @@ pub fn copy_factors(alloc: Global, us: &Atoms) -> Result<Atoms, AllocError>
 pub fn copy_arguments(alloc: Global, ps: &Polys) -> Result<Polys, AllocError>
     ensures { IfOk result (λ r. polys r ≡ polys ps.now) }
 {
-    let mut copies = Polys::new(alloc)?;
+    let mut copies = Polys::new(alloc);
     for item in ps.as_slice() {
         copies.push(copy(alloc, item)?)?;
     }
@@ -58,7 +58,7 @@ pub fn push_copy(alloc: Global, us: &mut Atoms, item: &Atom) -> Result<(), Alloc
 {
     // Most factors have no arguments, and then nothing is called.
     if item.args.as_slice().is_empty() {
-        let args = Polys::new(alloc)?;
+        let args = Polys::new(alloc);
         us.push(Atom {
             head: item.head,
             args,

@@ -50,12 +50,12 @@ impl Poly {
     ghost use Rattle.wh_poly.specs.Erase.{monomials};
 
     /// The polynomial 0.
-    pub fn new(alloc: Global) -> Result<Poly, AllocError>
-        ensures { IfOk result (λ p. monomials p ≡ []) }
+    pub fn new(alloc: Global) -> Poly
+        ensures { monomials result ≡ [] }
     {
-        Ok(Poly {
+        Poly {
             items: Vec::new(alloc),
-        })
+        }
     }
 
     /// The same, with room for so many monomials.
@@ -106,12 +106,12 @@ impl Atoms {
     ghost use Rattle.wh_poly.specs.Erase.{factors};
 
     /// No factors.
-    pub fn new(alloc: Global) -> Result<Atoms, AllocError>
-        ensures { IfOk result (λ atoms. factors atoms ≡ []) }
+    pub fn new(alloc: Global) -> Atoms
+        ensures { factors result ≡ [] }
     {
-        Ok(Atoms {
+        Atoms {
             items: Vec::new(alloc),
-        })
+        }
     }
 
     /// The same, with room for so many factors.
@@ -153,12 +153,12 @@ impl Polys {
     ghost use Rattle.wh_poly.specs.Erase.{list};
 
     /// No arguments.
-    pub fn new(alloc: Global) -> Result<Polys, AllocError>
-        ensures { IfOk result (λ polys. list polys ≡ []) }
+    pub fn new(alloc: Global) -> Polys
+        ensures { list result ≡ [] }
     {
-        Ok(Polys {
+        Polys {
             items: Vec::new(alloc),
-        })
+        }
     }
 
     /// The argument joins at the end; without memory the list stays as it was.

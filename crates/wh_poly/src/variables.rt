@@ -16,7 +16,7 @@ use wh_types::SimpleType;
 pub fn added(alloc: Global, kind: &SimpleType, count: u32, first: u32) -> Result<Polys, AllocError>
     ensures { IfOk result (λ r. polys r ≡ added_variables (ty kind.now) count first) }
 {
-    let mut out = Polys::new(alloc)?;
+    let mut out = Polys::new(alloc);
     let mut x = first;
     let mut here = kind;
     while let SimpleType::Arrow(argument, rest) = here {
@@ -33,9 +33,9 @@ pub fn added(alloc: Global, kind: &SimpleType, count: u32, first: u32) -> Result
 pub fn one_factor(alloc: Global, head: u32, args: Polys) -> Result<Poly, AllocError>
     ensures { IfOk result (λ r. poly r ≡ atom head (polys args)) }
 {
-    let mut atoms = Atoms::new(alloc)?;
+    let mut atoms = Atoms::new(alloc);
     atoms.push(Atom { head, args })?;
-    let mut value = Poly::new(alloc)?;
+    let mut value = Poly::new(alloc);
     value.push(Monomial {
         coefficient: 1,
         atoms,

@@ -89,7 +89,7 @@ pub fn multiply_by_variable(
     ensures ok { OnOk result ((grown so_far.new ≡ multiply (grown so_far.old) (atom head no_arguments)) × HasRoom so_far.new) }
     ensures fault { IfBecause result (λ e. ExceedsAs e (multiply (grown so_far.old) (atom head no_arguments))) }
 {
-    let args = Polys::new(alloc)?;
+    let args = Polys::new(alloc);
     if so_far.left == 0 {
         let value = one_factor(alloc, head, args)?;
         return multiply_out(alloc, so_far, &value);
@@ -202,7 +202,7 @@ fn begun(alloc: Global, first: Poly) -> Result<Growing, AllocError>
     let greatest = greatest_coefficient(&first);
     let left = left_behind(&first);
     fits(greatest);
-    let factors = Atoms::new(alloc)?;
+    let factors = Atoms::new(alloc);
     Ok(Growing {
         first: Some(first),
         greatest,
@@ -243,7 +243,7 @@ fn single(alloc: Global, coefficient: u128, factors: Atoms) -> Result<Poly, Allo
     ensures { IfOk result (λ r. poly r ≡ plus coefficient (joined (factors_of factors)) zero_poly) }
 {
     let atoms = in_order(alloc, factors)?;
-    let mut value = Poly::new(alloc)?;
+    let mut value = Poly::new(alloc);
     value.push(Monomial { coefficient, atoms })?;
     Ok(value)
 }

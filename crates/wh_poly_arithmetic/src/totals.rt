@@ -68,7 +68,7 @@ impl Total {
     {
         let mut rest = self;
         let Some(last) = rest.parts.pop() else {
-            return Ok(Poly::new(alloc)?);
+            return Ok(Poly::new(alloc));
         };
         let mut value = rest.within(last)?;
         while !rest.parts.is_empty() {

@@ -53,7 +53,7 @@ fn learner_for<'a>(
     ensures left { IfOk result (λ made. made.left ≡ budget) }
 {
     let variables = encoding.first_bits[encoding.sizes.len()];
-    let clauses = Clauses::new(alloc)?;
+    let clauses = Clauses::new(alloc);
     let learner = Learner::new(alloc, Formula { variables, clauses }, budget)?;
     Ok(learner)
 }

@@ -20,7 +20,7 @@ pub fn clause_of(
     requires { All (λ n. n + 1 < length first_bits.now) numbers.now }
     ensures { IfOk result (λ clause. clause ≡ flat_map (literals_on (value_of values.now) first_bits.now) numbers.now) }
 {
-    let mut clause = Clause::new(alloc)?;
+    let mut clause = Clause::new(alloc);
     for number in numbers {
         push_literals(
             &mut clause,
@@ -47,7 +47,7 @@ fn push_literals(clause: &mut Clause, values: &[bool], from: u32, to: u32) -> Re
 pub fn copy_clauses(alloc: Global, clauses: &Clauses) -> Result<Clauses, AllocError>
     ensures { IfOk result (λ made. made ≡ clauses.now) }
 {
-    let mut made = Clauses::new(alloc)?;
+    let mut made = Clauses::new(alloc);
     for clause in clauses.as_slice() {
         made.push(copy_clause(alloc, clause.as_slice())?)?;
     }
@@ -58,7 +58,7 @@ pub fn copy_clauses(alloc: Global, clauses: &Clauses) -> Result<Clauses, AllocEr
 fn copy_clause(alloc: Global, literals: &[Literal]) -> Result<Clause, AllocError>
     ensures { IfOk result (λ made. made ≡ literals.now) }
 {
-    let mut clause = Clause::new(alloc)?;
+    let mut clause = Clause::new(alloc);
     for literal in literals {
         clause.push(*literal)?;
     }

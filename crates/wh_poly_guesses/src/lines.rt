@@ -55,7 +55,7 @@ pub fn rule_lines<'a, 'b>(
     ensures { MatchOr result (λ lines. AreRuleLines (task_data task.now) (readings_data readings.now) (map transfers lines))
         (IsFailingRule (task_data task.now) (readings_data readings.now)) }
 {
-    let mut lines = Covers::new(alloc)?;
+    let mut lines = Covers::new(alloc);
     for (i, rule) in task.covered.iter().enumerate() {
         let Some(moves) = rule_line(alloc, task.system, readings, *rule)? else {
             return Err(Or::Because(i));
@@ -108,8 +108,8 @@ pub fn pair_lines<'a, 'b>(
     ensures { MatchOr result (AreLinesOfPairs (task_data task.now) (readings_data readings.now))
         (IsFailingPair (task_data task.now) (readings_data readings.now)) }
 {
-    let mut lines = Covers::new(alloc)?;
-    let mut drop = Numbers::new(alloc)?;
+    let mut lines = Covers::new(alloc);
+    let mut drop = Numbers::new(alloc);
     for (i, number) in task.set.iter().enumerate() {
         let pair = &task.pairs[*number as usize];
         let Some(line) = pair_line(alloc, task.system, readings, pair)? else {

@@ -68,7 +68,7 @@ fn matched(alloc: Global, left: &[Monomial], right: &[Monomial]) -> Result<Flow,
 fn moves_of(alloc: Global, items: &[Move]) -> Result<Moves, AllocError>
     ensures { IfOk result (λ list. transfers list ≡ positives (transfers items.now)) }
 {
-    let mut list = Moves::new(alloc)?;
+    let mut list = Moves::new(alloc);
     for item in items {
         if item.amount > 0 {
             list.push(Move {

@@ -51,7 +51,7 @@ pub fn reading_of(
     let spots = spots_in_order(alloc, scope)?;
     let places = places_of(alloc, scope)?;
     let sum = sum_of_sorts(alloc, scope)?;
-    let mut reading = Poly::new(alloc)?;
+    let mut reading = Poly::new(alloc);
     for spot in &spots {
         let coefficient = coefficient_at(coefficients, place_of(&places, *spot));
         if coefficient > 0 {
@@ -95,7 +95,7 @@ fn factors_at(
     requires sum { poly sum.now ≡ sum_of_variables (sort_variables (tys scope.now)) }
     ensures { IfOk result (λ us. atoms us ≡ factors_at (tys scope.now) spot) }
 {
-    let mut atoms = Atoms::new(alloc)?;
+    let mut atoms = Atoms::new(alloc);
     match spot {
         Spot::Constant => {}
         Spot::One(x) => atoms.push(factor(alloc, scope, sum, x)?)?,
@@ -122,7 +122,7 @@ fn factor(alloc: Global, scope: &[SimpleType], sum: &Poly, x: usize) -> Result<A
 fn filled(alloc: Global, sum: &Poly, kind: &SimpleType) -> Result<Polys, AllocError>
     ensures { IfOk result (λ args. polys args ≡ filled (poly sum.now) (ty kind.now)) }
 {
-    let mut args = Polys::new(alloc)?;
+    let mut args = Polys::new(alloc);
     let mut here = kind;
     while let SimpleType::Arrow(first, rest) = here {
         args.push(sum_or_zero(alloc, sum, is_sort(first))?)?;
@@ -146,7 +146,7 @@ fn sum_or_zero(alloc: Global, sum: &Poly, asked: bool) -> Result<Poly, AllocErro
 fn sum_of_sorts(alloc: Global, scope: &[SimpleType]) -> Result<Poly, AllocError>
     ensures { IfOk result (λ sum. poly sum ≡ sum_of_variables (sort_variables (tys scope.now))) }
 {
-    let mut sum = Poly::new(alloc)?;
+    let mut sum = Poly::new(alloc);
     for (x, kind) in scope.iter().enumerate() {
         if is_sort(kind) {
             sum.push(single(alloc, x)?)?;
@@ -161,8 +161,8 @@ fn single(alloc: Global, x: usize) -> Result<Monomial, AllocError>
     ensures factors { IfOk result (λ m. atoms (out-Monomial m).atoms ≡ times x no_arguments no_factors) }
 {
     let head = u32::try_from(x).or(Err(AllocError))?;
-    let mut atoms = Atoms::new(alloc)?;
-    let args = Polys::new(alloc)?;
+    let mut atoms = Atoms::new(alloc);
+    let args = Polys::new(alloc);
     atoms.push(Atom { head, args })?;
     Ok(Monomial {
         coefficient: 1,

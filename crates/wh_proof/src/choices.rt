@@ -27,7 +27,7 @@ pub fn choices_of(
 {
     system.is_well_made();
     let names = system.fun_names();
-    let mut choices = Projection::new(alloc)?;
+    let mut choices = Projection::new(alloc);
     let mut next = 0;
     for arg in args {
         let symbol = symbol_from(names, next, &arg.name);

@@ -89,7 +89,7 @@ fn filters_of_set(
 fn read_filters(alloc: Global, lines: &[NamedFilter]) -> Result<FilterList, AllocError>
     ensures { IfOk result (λ made. map written_filter made ≡ map (λ line. written_filter line.filter) lines.now) }
 {
-    let mut filters = FilterList::new(alloc)?;
+    let mut filters = FilterList::new(alloc);
     for line in lines {
         filters.push(copy_filter(alloc, &line.filter)?)?;
     }
@@ -106,7 +106,7 @@ fn read_mark_filters(
     ensures symbols { IfOk result (λ made. map (λ m. m.symbol) made ≡ numbers.now) }
     ensures filters { IfOk result (λ made. map (λ m. written_filter m.filter) made ≡ map (λ line. written_filter line.filter) lines.now) }
 {
-    let mut marks = MarkFilterList::new(alloc)?;
+    let mut marks = MarkFilterList::new(alloc);
     for i in 0..lines.len() {
         marks.push(MarkFilter {
             symbol: numbers[i],
@@ -126,7 +126,7 @@ pub fn lines_of_filters(
     ensures names { IfOk result (λ lines. map (λ l. l.name) lines ≡ names.now) }
     ensures filters { IfOk result (λ lines. map (λ l. written_filter l.filter) lines ≡ map written_filter filters.now) }
 {
-    let mut lines = NamedFilters::new(alloc)?;
+    let mut lines = NamedFilters::new(alloc);
     for i in 0..filters.len() {
         let name = Name::new(alloc, names[i].bytes())?;
         let filter = copy_filter(alloc, &filters[i])?;
@@ -144,7 +144,7 @@ pub fn lines_of_mark_filters(
     ensures names { IfOk result (λ lines. map (λ m. slice_get names.now m.symbol) marks.now ≡ map (λ l. Some l.name) lines) }
     ensures filters { IfOk result (λ lines. map (λ m. written_filter m.filter) marks.now ≡ map (λ l. written_filter l.filter) lines) }
 {
-    let mut lines = NamedFilters::new(alloc)?;
+    let mut lines = NamedFilters::new(alloc);
     for mark in marks {
         if mark.symbol as usize >= names.len() {
             return Err(AllocError);
@@ -176,7 +176,7 @@ fn copy_filter(alloc: Global, filter: &Filter) -> Result<Filter, AllocError>
 fn copied(alloc: Global, list: &[u32]) -> Result<Numbers, AllocError>
     ensures { IfOk result (λ numbers. numbers ≡ list.now) }
 {
-    let mut numbers = Numbers::new(alloc)?;
+    let mut numbers = Numbers::new(alloc);
     for number in list {
         numbers.push(*number)?;
     }

@@ -30,7 +30,7 @@ pub fn lines_of_choices(
     ensures said { IfOk result (λ args. SayChoices (system_data system.now) (map said_arg args) (map chosen choices.now)) }
     ensures fit { IfOk result (λ args. All ArgFits (map said_arg args)) }
 {
-    let mut args = Args::new(alloc)?;
+    let mut args = Args::new(alloc);
     for choice in choices {
         let name = Name::new(alloc, system.fun_name(choice.symbol).bytes())?;
         args.push(Arg {
@@ -51,7 +51,7 @@ pub fn lines_of_symbols(
     ensures names { IfOk result (λ lines. map (λ l. l.name) lines ≡ names.now) }
     ensures polynomials { IfOk result (λ lines. map (λ s. poly s.poly) symbols.now ≡ map (λ l. poly l.poly) lines) }
 {
-    let mut lines = Interps::new(alloc)?;
+    let mut lines = Interps::new(alloc);
     for i in 0..symbols.len() {
         let name = Name::new(alloc, names[i].bytes())?;
         let poly = copy(alloc, &symbols[i].poly)?;
@@ -69,7 +69,7 @@ pub fn lines_of_marks(
     ensures names { IfOk result (λ lines. map (λ m. slice_get names.now m.symbol) marks.now ≡ map (λ l. Some l.name) lines) }
     ensures polynomials { IfOk result (λ lines. map (λ m. poly m.poly) marks.now ≡ map (λ l. poly l.poly) lines) }
 {
-    let mut lines = Interps::new(alloc)?;
+    let mut lines = Interps::new(alloc);
     for mark in marks {
         if mark.symbol as usize >= names.len() {
             return Err(AllocError);

@@ -9,7 +9,7 @@ use wh_types::{Numbers, Ranks};
 pub fn numbers_of(alloc: Global, list: &[u32]) -> Result<Numbers, AllocError>
     ensures { IfOk result (λ numbers. numbers ≡ list.now) }
 {
-    let mut numbers = Numbers::new(alloc)?;
+    let mut numbers = Numbers::new(alloc);
     for number in list {
         numbers.push(*number)?;
     }
@@ -20,7 +20,7 @@ pub fn numbers_of(alloc: Global, list: &[u32]) -> Result<Numbers, AllocError>
 pub fn numbers_of_ranks(alloc: Global, ranks: &Ranks) -> Result<Numbers, AllocError>
     ensures { IfOk result (λ numbers. numbers ≡ ranks.now) }
 {
-    let mut numbers = Numbers::new(alloc)?;
+    let mut numbers = Numbers::new(alloc);
     for sort in 0..ranks.count() {
         numbers.push(ranks.of(sort))?;
     }

@@ -91,7 +91,7 @@ fn prove_under(
     let count = pairs.as_slice().len() as u32;
     let graph = Graph::new(alloc, system, pairs)?;
     let whole = numbers_below(alloc, count)?;
-    let mut nodes = Nodes::new(alloc)?;
+    let mut nodes = Nodes::new(alloc);
     let setting = Setting {
         system,
         pairs,

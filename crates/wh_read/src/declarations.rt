@@ -77,7 +77,7 @@ pub fn rule_open(alloc: Global, rule_at: u32, letter: Lexeme) -> Result<Step, Al
 {
     match letter {
         Lexeme::OpenBrace => Ok(Step::To(Place::WantMeta(OpenMetas {
-            metas: RawMetas::new(alloc)?,
+            metas: RawMetas::new(alloc),
             at: rule_at,
         }))),
         _ => Ok(Step::Failed),
@@ -134,7 +134,7 @@ pub fn behind_colon(
     ensures { IfOk result (λ step. (parts : RParts) → held.state parts step
         ≡ r.behind_colon parts (held.meta meta) (held.letter letter) at) }
 {
-    let args = RawTypes::new(alloc)?;
+    let args = RawTypes::new(alloc);
     match letter {
         Lexeme::OpenBracket => want_type(alloc, Purpose::InBrackets(meta, args)),
         letter => {

@@ -141,9 +141,9 @@ pub fn parse(alloc: Global, text: &[u8], tokens: &[Token]) -> Result<Parts, Or<S
         (HasSyntaxFault (letters text.now tokens.now) (length text.now)) }
 {
     let mut parts = Parts {
-        sorts: RawNames::new(alloc)?,
-        funs: RawFuns::new(alloc)?,
-        rules: RawRules::new(alloc)?,
+        sorts: RawNames::new(alloc),
+        funs: RawFuns::new(alloc),
+        rules: RawRules::new(alloc),
     };
     let mut place = Place::Between;
     for token in tokens {

@@ -35,7 +35,7 @@ fn longer(
 fn spine_of(alloc: Global, head: RawTerm, atom: RawTerm, at: u32) -> Result<RawTerm, AllocError>
     ensures { IfOk result (λ term. rtm term ≡ spine (rtm head) (more (rtm atom) none) at) }
 {
-    longer(Box::new(alloc, head)?, RawTerms::new(alloc)?, atom, at)
+    longer(Box::new(alloc, head)?, RawTerms::new(alloc), atom, at)
 }
 
 /// The term so far, with one more atom.
@@ -131,7 +131,7 @@ fn open_bracket(alloc: Global, mut rule: Box<OpenRule>, name: RawName) -> Result
         (r.bracket name.name name.at none (held.spine_of rule) (held.rule rule).frames)) None)) }
 {
     let before = rule.before.take();
-    let args = RawTerms::new(alloc)?;
+    let args = RawTerms::new(alloc);
     open_frame(rule, Frame::Bracket(name, args, before))
 }
 

@@ -25,7 +25,7 @@ pub fn new_type(alloc: Global) -> Result<OpenType, AllocError>
     ensures { IfOk result (λ started. held.open_type started ≡ r.new_type) }
 {
     Ok(OpenType {
-        args: RawTypes::new(alloc)?,
+        args: RawTypes::new(alloc),
         outer: Vec::new(alloc),
     })
 }
@@ -106,7 +106,7 @@ fn inner_type(alloc: Global, started: OpenType) -> Result<OpenType, AllocError>
     let OpenType { args, mut outer } = started;
     outer.push(args)?;
     Ok(OpenType {
-        args: RawTypes::new(alloc)?,
+        args: RawTypes::new(alloc),
         outer,
     })
 }
@@ -138,7 +138,7 @@ fn sort_in_type(
     ensures { IfOk result (λ step. (parts : RParts) → held.state parts step
         ≡ r.at_atype parts (held.purpose purpose) (held.open_type started) (a_name sort) at) }
 {
-    let args = RawTypes::new(alloc)?;
+    let args = RawTypes::new(alloc);
     had_atype(alloc, purpose, started, RawType { args, sort, at })
 }
 

@@ -9,7 +9,7 @@ use wh_sat_trail::{Clause, Clauses, Literal};
 pub fn copy_clause(alloc: Global, literals: &[Literal]) -> Result<Clause, AllocError>
     ensures { IfOk result (λ made. made ≡ literals.now) }
 {
-    let mut clause = Clause::new(alloc)?;
+    let mut clause = Clause::new(alloc);
     for literal in literals {
         clause.push(*literal)?;
     }
@@ -20,7 +20,7 @@ pub fn copy_clause(alloc: Global, literals: &[Literal]) -> Result<Clause, AllocE
 pub fn copy_clauses(alloc: Global, clauses: &Clauses, from: usize) -> Result<Clauses, AllocError>
     ensures { IfOk result (λ made. made ≡ drop from clauses.now) }
 {
-    let mut made = Clauses::new(alloc)?;
+    let mut made = Clauses::new(alloc);
     let all = clauses.as_slice();
     for place in from..all.len() {
         made.push(copy_clause(alloc, all[place].as_slice())?)?;

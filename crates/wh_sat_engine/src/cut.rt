@@ -49,7 +49,7 @@ impl Cut {
         self.last = 0;
         self.resolved.truncate(0);
         self.join(trail, notes, number, None)?;
-        let mut clause = Clause::new(alloc)?;
+        let mut clause = Clause::new(alloc);
         for place in (0..trail.len()).rev() {
             if let Some(literal) = self.pass(trail, notes, trail.literal(place))? {
                 clause.push(literal)?;

@@ -149,7 +149,7 @@ impl Engine {
     fn kept_clauses(&self, most: u64) -> Result<Clauses, AllocError>
         ensures { IfOk result (Within (formula_of self.now.trail).variables) }
     {
-        let mut clauses = Clauses::new(self.alloc)?;
+        let mut clauses = Clauses::new(self.alloc);
         for (number, clause) in self.trail.formula().clauses.as_slice().iter().enumerate() {
             if self.shelf.is_kept(number, most) {
                 clauses.push(copy_clause(self.alloc, clause.as_slice())?)?;

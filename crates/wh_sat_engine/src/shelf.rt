@@ -28,7 +28,7 @@ impl Shelf {
         }
         Ok(Shelf {
             given,
-            list: Refutation::new(alloc)?,
+            list: Refutation::new(alloc),
             names,
             glues: Vec::new(alloc),
         })
@@ -36,7 +36,7 @@ impl Shelf {
 
     /// The list, which is empty after that.
     pub fn take_list(&mut self, alloc: Global) -> Result<Refutation, AllocError> {
-        let empty = Refutation::new(alloc)?;
+        let empty = Refutation::new(alloc);
         Ok(mem::replace(&mut self.list, empty))
     }
 
@@ -49,7 +49,7 @@ impl Shelf {
         resolved: &[usize],
     ) -> Result<(), AllocError> {
         let clause = copy_clause(alloc, literals)?;
-        let mut hints = Numbers::new(alloc)?;
+        let mut hints = Numbers::new(alloc);
         for number in resolved.iter().rev() {
             hints.push(self.name(*number))?;
         }

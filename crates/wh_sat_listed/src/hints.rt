@@ -35,7 +35,7 @@ pub fn hints_for(
     ensures round { truth.new.round ≡ truth.old.round }
 {
     suppose(truth, variables, clause);
-    let mut hints = Numbers::new(alloc)?;
+    let mut hints = Numbers::new(alloc);
     loop {
         if pass(truth, variables, clauses, &mut hints)? {
             return Ok(hints);

@@ -33,7 +33,7 @@ pub fn refutation_of(
 {
     let clauses = formula.clauses.as_slice();
     let mut truth = Truth::new(alloc, formula.variables)?;
-    let mut list = Refutation::new(alloc)?;
+    let mut list = Refutation::new(alloc);
     for number in given..clauses.len() {
         list.push(entry_for(
             alloc,

@@ -27,12 +27,12 @@ impl Model for Clause {
 
 impl Clause {
     /// The empty clause.
-    pub fn new(alloc: Global) -> Result<Clause, AllocError>
-        ensures { IfOk result (λ clause. clause ≡ []) }
+    pub fn new(alloc: Global) -> Clause
+        ensures { result ≡ [] }
     {
-        Ok(Clause {
+        Clause {
             items: Vec::new(alloc),
-        })
+        }
     }
 
     /// Puts a literal at the end.
@@ -73,12 +73,12 @@ impl Model for Clauses {
 
 impl Clauses {
     /// The empty list.
-    pub fn new(alloc: Global) -> Result<Clauses, AllocError>
-        ensures { IfOk result (λ clauses. clauses ≡ []) }
+    pub fn new(alloc: Global) -> Clauses
+        ensures { result ≡ [] }
     {
-        Ok(Clauses {
+        Clauses {
             items: Vec::new(alloc),
-        })
+        }
     }
 
     /// Puts a clause at the end.

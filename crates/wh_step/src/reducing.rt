@@ -120,7 +120,7 @@ fn reducts_below(alloc: Global, rules: &[Rule], term: &Term) -> Result<Vec<Term>
 fn collected(alloc: Global, found: Vec<Term>) -> Result<Terms, AllocError>
     ensures { IfOk result (λ r. map tm r ≡ map tm found.items) }
 {
-    let mut all = Terms::new(alloc)?;
+    let mut all = Terms::new(alloc);
     for term in found {
         all.push(term)?;
     }

@@ -73,7 +73,7 @@ pub fn reduce(alloc: Global, rules: &[Rule], term: &Term, steps: u32) -> Result<
 {
     let mut here = copy_term(alloc, term)?;
     let mut total = size(term);
-    let mut place = Path::new(alloc)?;
+    let mut place = Path::new(alloc);
     for taken in 0..steps {
         let Some(step) = next_step(alloc, rules, &here, place.as_slice())? else {
             return Ok(Reduced {

@@ -103,7 +103,7 @@ fn raw_each(
     requires { AreNamedBelow (term_names names.now) depth (tms items.now) }
     ensures { IfOk result (λ raw. rtms raw ≡ each_raw_below (term_names names.now) depth (tms items.now)) }
 {
-    let mut raw = RawTerms::new(alloc)?;
+    let mut raw = RawTerms::new(alloc);
     for item in items.as_slice() {
         raw.push(raw_under(alloc, names, item, depth)?)?;
     }
@@ -131,7 +131,7 @@ fn spine_parts(alloc: Global, term: RawTerm) -> Result<(Box<RawTerm>, RawTerms, 
         | RawTerm::Numbered(_, _)
         | RawTerm::Free(_, _, _)
         | RawTerm::Meta(_, _, _)
-        | RawTerm::Lam(_, _, _, _)) => Ok((Box::new(alloc, head)?, RawTerms::new(alloc)?, 0)),
+        | RawTerm::Lam(_, _, _, _)) => Ok((Box::new(alloc, head)?, RawTerms::new(alloc), 0)),
     }
 }
 
@@ -141,7 +141,7 @@ pub fn raw_type(alloc: Global, sorts: &[Name], kind: &SimpleType) -> Result<RawT
     requires { SortsBelow (length sorts.now) (ty kind.now) }
     ensures { IfOk result (λ raw. rty raw ≡ raw_type_of sorts.now (ty kind.now)) }
 {
-    let mut args = RawTypes::new(alloc)?;
+    let mut args = RawTypes::new(alloc);
     push_arguments(alloc, sorts, kind, &mut args)?;
     Ok(RawType {
         args,

@@ -47,7 +47,7 @@ impl NameTables {
         ensures { IfOk result (λ answer. TellsMeant (system_data system.now) (rtm term.now) answer) }
     {
         let metas = NameTable::new(alloc);
-        let declared = Metas::new(alloc)?;
+        let declared = Metas::new(alloc);
         system.is_well_made();
         let scope = Scope {
             sorts: &self.sorts,

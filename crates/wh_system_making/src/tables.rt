@@ -12,7 +12,7 @@ use wh_types::List;
 pub fn list_of(alloc: Global, table: &NameTable) -> Result<List<Name>, AllocError>
     ensures { IfOk result (λ names. names ≡ table.now) }
 {
-    let mut names = List::new(alloc)?;
+    let mut names = List::new(alloc);
     for name in table.as_slice() {
         names.push(Name::new(alloc, name.bytes())?)?;
     }

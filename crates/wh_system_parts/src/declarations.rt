@@ -103,7 +103,7 @@ pub fn declare_funs(
 {
     check_fun_count(funs)?;
     let mut names = NameTable::new(alloc);
-    let mut kinds = Types::new(alloc)?;
+    let mut kinds = Types::new(alloc);
     for fun in funs {
         let kind = declare_fun(alloc, sorts, &mut names, fun)?;
         kinds.push(kind)?;

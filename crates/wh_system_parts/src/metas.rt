@@ -44,7 +44,7 @@ pub fn declare_metas(
 {
     check_meta_count(metas)?;
     let mut names = NameTable::new(alloc);
-    let mut declared = Metas::new(alloc)?;
+    let mut declared = Metas::new(alloc);
     for meta in metas {
         let declaration = declare_meta(alloc, sorts, funs, &mut names, meta)?;
         declared.push(declaration)?;
@@ -100,7 +100,7 @@ fn declared_types(
 ) -> Result<Types, Or<SystemFault>>
     ensures { Passes (types_tests sorts.now (rtys kinds.now)) result (λ types. types_of_raw sorts.now (rtys kinds.now) ≡ tys types) }
 {
-    let mut types = Types::new(alloc)?;
+    let mut types = Types::new(alloc);
     for kind in kinds.as_slice() {
         types.push(declared_type(alloc, sorts, kind)?)?;
     }

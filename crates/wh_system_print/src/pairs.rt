@@ -29,7 +29,7 @@ pub fn print_pairs(alloc: Global, system: &System, pairs: &PairList) -> Result<B
     requires { ArePairs (candidates (system_data system.now).symbols (system_data system.now).rules) (pairs_data pairs.now) }
     ensures { IfOk result (λ text. text ≡ pairs_text (system_data system.now) (pairs_data pairs.now)) }
 {
-    let mut out = Bytes::new(alloc)?;
+    let mut out = Bytes::new(alloc);
     out.append(b"PAIRS ")?;
     print_number(&mut out, counted(pairs.as_slice().len())?)?;
     out.push(b'\n')?;

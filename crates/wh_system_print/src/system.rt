@@ -14,7 +14,7 @@ use wh_types::Bytes;
 pub fn print_system(alloc: Global, system: &System) -> Result<Bytes, AllocError>
     ensures { IfOk result (λ text. text ≡ system_text (system_data system.now)) }
 {
-    let mut out = Bytes::new(alloc)?;
+    let mut out = Bytes::new(alloc);
     print_sorts(&mut out, system.sort_names())?;
     print_funs(
         &mut out,

@@ -109,8 +109,8 @@ fn resolve_each<'a, 'b>(
     ensures told { ResolvesEach (in_scope scope.now) (typed passed.old.items) (rtms items.now) result }
     ensures kept { OnOk result (passed.new.items ≡ passed.old.items) }
 {
-    let mut trees = Terms::new(alloc)?;
-    let mut kinds = List::new(alloc)?;
+    let mut trees = Terms::new(alloc);
+    let mut kinds = List::new(alloc);
     for item in items.as_slice() {
         let Resolved { term, kind } = resolve_under(alloc, scope, passed, item)?;
         trees.push(term)?;

@@ -56,7 +56,7 @@ pub fn resolve_declared<'a>(
             return Err(Or::Because(SystemFault::IllTyped { at }));
         }
         return Ok(Resolved {
-            term: Term::Meta(meta, Terms::new(alloc)?),
+            term: Term::Meta(meta, Terms::new(alloc)),
             kind: Kind::Known(&declared.result),
         });
     }

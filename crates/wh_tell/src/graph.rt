@@ -45,7 +45,7 @@ pub fn all_of(alloc: Global, list: &PairList) -> Result<PairSet, AllocError>
     ensures { IfOk result (λ set. All (λ n. n < length list.now) set) }
 {
     let count = counted(list.as_slice().len())?;
-    let mut set = PairSet::new(alloc)?;
+    let mut set = PairSet::new(alloc);
     for number in 0..count {
         set.push(number)?;
     }
@@ -98,7 +98,7 @@ fn put_box(
         return Ok(());
     };
     tell(text, "p@ [label=\"@: ", &[Number(number), Number(number)]);
-    let mut label = Text::new(alloc)?;
+    let mut label = Text::new(alloc);
     put_pair(&mut label, system, pair);
     let label = label.into_bytes()?;
     put_escaped(text, label.as_slice());

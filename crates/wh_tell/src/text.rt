@@ -14,11 +14,11 @@ pub struct Text {
 
 impl Text {
     /// The empty text.
-    pub fn new(alloc: Global) -> Result<Text, AllocError> {
-        Ok(Text {
-            bytes: Bytes::new(alloc)?,
+    pub fn new(alloc: Global) -> Text {
+        Text {
+            bytes: Bytes::new(alloc),
             cut: false,
-        })
+        }
     }
 
     /// Its bytes, to be kept. The error is that memory was wanting for some piece.

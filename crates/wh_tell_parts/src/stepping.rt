@@ -13,7 +13,7 @@ pub fn term_after(
     step: &Step,
 ) -> Result<Option<Term>, AllocError> {
     system.is_well_made();
-    let no_metas = Metas::new(alloc)?;
+    let no_metas = Metas::new(alloc);
     if !fits(term) {
         return Ok(None);
     }

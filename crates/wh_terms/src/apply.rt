@@ -69,7 +69,7 @@ fn values_under(
     requires { CoversAll by.now (tms items.now) }
     ensures { IfOk result (λ r. tms r ≡ all_valued depth (bodies by.now) (tms items.now)) }
 {
-    let mut values = Terms::new(alloc)?;
+    let mut values = Terms::new(alloc);
     for item in items.as_slice() {
         values.push(value_under(alloc, by, item, depth)?)?;
     }

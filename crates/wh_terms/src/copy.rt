@@ -33,7 +33,7 @@ pub fn copy_term(alloc: Global, t: &Term) -> Result<Term, AllocError>
 fn copy_terms(alloc: Global, items: &Terms) -> Result<Terms, AllocError>
     ensures { IfOk result (λ r. tms r ≡ tms items.now) }
 {
-    let mut copies = Terms::new(alloc)?;
+    let mut copies = Terms::new(alloc);
     for item in items.as_slice() {
         copies.push(copy_term(alloc, item)?)?;
     }

@@ -27,12 +27,12 @@ impl Model for Path {
 
 impl Path {
     /// The empty path, which leads to the term itself.
-    pub fn new(alloc: Global) -> Result<Path, AllocError>
-        ensures { IfOk result (λ path. path ≡ []) }
+    pub fn new(alloc: Global) -> Path
+        ensures { result ≡ [] }
     {
-        Ok(Path {
+        Path {
             steps: SmallVec::new(alloc),
-        })
+        }
     }
 
     /// The path goes on with `item`, which is 0 or 1; without memory it stays as it was.

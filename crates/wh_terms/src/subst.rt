@@ -41,12 +41,12 @@ impl Subst {
     ghost use Rattle.wh_terms.specs.Entries.{IsAnotherVariable};
 
     /// The empty substitution, which changes nothing.
-    pub fn new(alloc: Global) -> Result<Subst, AllocError>
-        ensures { IfOk result (λ subst. subst ≡ []) }
+    pub fn new(alloc: Global) -> Subst
+        ensures { result ≡ [] }
     {
-        Ok(Subst {
+        Subst {
             items: Vec::new(alloc),
-        })
+        }
     }
 
     /// The entry joins at the end; without memory the list stays as it was. No entry may be for the same variable.
@@ -100,12 +100,12 @@ impl Model for MetaSubst {
 
 impl MetaSubst {
     /// The empty meta-substitution.
-    pub fn new(alloc: Global) -> Result<MetaSubst, AllocError>
-        ensures { IfOk result (λ subst. subst ≡ []) }
+    pub fn new(alloc: Global) -> MetaSubst
+        ensures { result ≡ [] }
     {
-        Ok(MetaSubst {
+        MetaSubst {
             items: Vec::new(alloc),
-        })
+        }
     }
 
     /// The body joins at the end; without memory the list stays as it was. No body may be for the same meta-variable.

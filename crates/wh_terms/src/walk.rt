@@ -87,7 +87,7 @@ fn act_each<R: Replace>(
     requires { R.is_ready by.now }
     ensures { IfOk result (λ r. tms r ≡ acts (ups depth (R.for_bound by.now)) (ups_free depth (R.for_free by.now)) (tms items.now)) }
 {
-    let mut results = Terms::new(alloc)?;
+    let mut results = Terms::new(alloc);
     for item in items.as_slice() {
         results.push(act_under(alloc, by, item, depth)?)?;
     }

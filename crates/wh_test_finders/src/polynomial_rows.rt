@@ -70,7 +70,7 @@ fn is_worth<'a>(
     let Some(item) = system.rules().get(rule) else {
         return Err(AllocError);
     };
-    let mut table = Table::new(alloc)?;
+    let mut table = Table::new(alloc);
     let number = table.add(&item.left)?;
     let scope = scope_of(alloc, &item.metas)?;
     let worth = side_by_number(alloc, system, readings, &table, number, scope.as_slice());

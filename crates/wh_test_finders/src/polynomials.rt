@@ -12,7 +12,7 @@ pub type Product = (Option<&'static [Plain]>, Plain);
 // The variables join the factors.
 fn add_variables(alloc: Global, atoms: &mut Atoms, variables: &[u32]) -> Result<(), AllocError> {
     for head in variables {
-        let args = Polys::new(alloc)?;
+        let args = Polys::new(alloc);
         atoms.push(Atom { head: *head, args })?;
     }
     Ok(())
@@ -28,9 +28,9 @@ fn add_product(sum: &mut Poly, atoms: Atoms) -> Result<(), AllocError> {
 
 // The sum of plain products.
 fn plain_sum(alloc: Global, products: &[Plain]) -> Result<Poly, AllocError> {
-    let mut sum = Poly::new(alloc)?;
+    let mut sum = Poly::new(alloc);
     for variables in products {
-        let mut atoms = Atoms::new(alloc)?;
+        let mut atoms = Atoms::new(alloc);
         add_variables(alloc, &mut atoms, variables)?;
         add_product(&mut sum, atoms)?;
     }
@@ -40,7 +40,7 @@ fn plain_sum(alloc: Global, products: &[Plain]) -> Result<Poly, AllocError> {
 // Variable 0 applied to the sum of the plain products joins the factors.
 fn add_applied(alloc: Global, atoms: &mut Atoms, products: &[Plain]) -> Result<(), AllocError> {
     let argument = plain_sum(alloc, products)?;
-    let mut args = Polys::new(alloc)?;
+    let mut args = Polys::new(alloc);
     args.push(argument)?;
     atoms.push(Atom { head: 0, args })
 }
@@ -48,7 +48,7 @@ fn add_applied(alloc: Global, atoms: &mut Atoms, products: &[Plain]) -> Result<(
 // The factors of a product.
 fn factors_of(alloc: Global, product: Product) -> Result<Atoms, AllocError> {
     let (argument, variables) = product;
-    let mut atoms = Atoms::new(alloc)?;
+    let mut atoms = Atoms::new(alloc);
     if let Some(products) = argument {
         add_applied(alloc, &mut atoms, products)?;
     }
@@ -58,7 +58,7 @@ fn factors_of(alloc: Global, product: Product) -> Result<Atoms, AllocError> {
 
 /// The sum of the products, in this order.
 pub fn poly_of(alloc: Global, products: &[Product]) -> Result<Poly, AllocError> {
-    let mut sum = Poly::new(alloc)?;
+    let mut sum = Poly::new(alloc);
     for product in products {
         let atoms = factors_of(alloc, *product)?;
         add_product(&mut sum, atoms)?;

@@ -35,7 +35,7 @@ fn all_of(alloc: Global, sides: &[Sides]) -> Result<PairSet, AllocError>
     ensures { IfOk result (λ set. All (λ n. n < length sides.now) set) }
 {
     let count = counted(sides.len())?;
-    let mut set = PairSet::new(alloc)?;
+    let mut set = PairSet::new(alloc);
     for number in 0..count {
         set.push(number)?;
     }
@@ -53,7 +53,7 @@ fn told_of_choice(
     requires { (ps : List PairData) × AreSides (trees table.now) sides.now ps }
 {
     let set = all_of(alloc, sides)?;
-    let mut args = Projection::new(alloc)?;
+    let mut args = Projection::new(alloc);
     args.push(choice)?;
     Ok(told(check_numbered(system, table, sides, &set, &args, &[0])))
 }
@@ -67,7 +67,7 @@ fn told_of_pairs(
 ) -> Result<Told, AllocError>
     requires { HasPairs (system_data system.now) (map pair_data list.now) }
 {
-    let mut table = Table::new(alloc)?;
+    let mut table = Table::new(alloc);
     let sides = number_pairs(alloc, list, &mut table)?;
     told_of_choice(alloc, system, &table, sides.as_slice(), choice)
 }

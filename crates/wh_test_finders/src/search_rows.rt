@@ -31,7 +31,7 @@ fn all_of(alloc: Global, pairs: &[Pair]) -> Result<PairSet, AllocError>
     ensures { IfOk result (λ set. All (λ n. n < length pairs.now) set) }
 {
     let count = counted(pairs.len())?;
-    let mut set = PairSet::new(alloc)?;
+    let mut set = PairSet::new(alloc);
     for number in 0..count {
         set.push(number)?;
     }

@@ -97,7 +97,7 @@ fn answer_of(
     if pair as usize >= list.as_slice().len() {
         return Err(AllocError);
     }
-    let mut set = PairSet::new(alloc)?;
+    let mut set = PairSet::new(alloc);
     set.push(pair)?;
     match finder {
         Finder::Flat => answer_over(alloc, system, list, &set, None, budget),

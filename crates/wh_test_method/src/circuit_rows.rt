@@ -122,7 +122,7 @@ fn times(
 
 // The wire alone.
 fn alone(alloc: Global, wire: Wire) -> Result<Wires, AllocError> {
-    let mut made = Wires::new(alloc)?;
+    let mut made = Wires::new(alloc);
     made.push(wire)?;
     Ok(made)
 }
@@ -147,7 +147,7 @@ fn called(
 
 // An input is fixed to each of the values.
 fn fixed(alloc: Global, circuit: &mut Circuit, values: &[bool]) -> Result<Wires, AllocError> {
-    let mut made = Wires::new(alloc)?;
+    let mut made = Wires::new(alloc);
     for value in values {
         let wire = input(circuit)?;
         made.push(wire)?;
@@ -200,7 +200,7 @@ fn come_to(
     first: &[bool],
     second: &[bool],
 ) -> Result<String, AllocError> {
-    let mut circuit = Circuit::new(alloc)?;
+    let mut circuit = Circuit::new(alloc);
     let a = fixed(alloc, &mut circuit, first)?;
     let b = fixed(alloc, &mut circuit, second)?;
     let made = called(alloc, &mut circuit, call, a.as_slice(), b.as_slice())?;
@@ -248,7 +248,7 @@ fn circuits_come_to_their_values(rt: HostRuntime) -> Result<(), Fail> {
 
 // What a circuit comes to that requires an input and its negation.
 fn contradiction(alloc: Global) -> Result<String, AllocError> {
-    let mut circuit = Circuit::new(alloc)?;
+    let mut circuit = Circuit::new(alloc);
     let wire = input(&mut circuit)?;
     require(&mut circuit, wire)?;
     let negation = circuit.not(wire);

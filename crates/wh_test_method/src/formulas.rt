@@ -18,7 +18,7 @@ fn literal_of(number: i32) -> Literal {
 
 /// The clause of numbers.
 pub fn clause_of(alloc: Global, numbers: &[i32]) -> Result<Clause, AllocError> {
-    let mut clause = Clause::new(alloc)?;
+    let mut clause = Clause::new(alloc);
     for number in numbers {
         clause.push(literal_of(*number))?;
     }
@@ -27,7 +27,7 @@ pub fn clause_of(alloc: Global, numbers: &[i32]) -> Result<Clause, AllocError> {
 
 /// The clauses of numbers.
 pub fn clauses_of(alloc: Global, lists: &[&[i32]]) -> Result<Clauses, AllocError> {
-    let mut clauses = Clauses::new(alloc)?;
+    let mut clauses = Clauses::new(alloc);
     for list in lists {
         clauses.push(clause_of(alloc, *list)?)?;
     }

@@ -58,9 +58,9 @@ type Given = (&'static [i32], &'static [u32]);
 
 // The list of clauses with hints.
 fn list_of(alloc: Global, entries: &[Given]) -> Result<Refutation, AllocError> {
-    let mut list = Refutation::new(alloc)?;
+    let mut list = Refutation::new(alloc);
     for (clause, numbers) in entries {
-        let mut hints = Numbers::new(alloc)?;
+        let mut hints = Numbers::new(alloc);
         for number in *numbers {
             hints.push(*number)?;
         }

@@ -110,7 +110,7 @@ pub fn all_of(alloc: Global, list: &PairList) -> Result<PairSet, AllocError>
     ensures { IfOk result (λ set. All (λ n. n < length list.now) set) }
 {
     let count = u32::try_from(list.as_slice().len()).or(Err(AllocError))?;
-    let mut set = PairSet::new(alloc)?;
+    let mut set = PairSet::new(alloc);
     for number in 0..count {
         set.push(number)?;
     }
@@ -273,7 +273,7 @@ fn are_in_order(choices: &[Choice]) -> bool {
 
 /// Whether two choices keep their order.
 fn keeps_order(alloc: Global) -> Result<bool, AllocError> {
-    let mut args = Projection::new(alloc)?;
+    let mut args = Projection::new(alloc);
     args.push(Choice {
         symbol: 4,
         argument: 2,
@@ -311,7 +311,7 @@ fn told_of_choice(
 ) -> Result<Told, AllocError>
     requires { All (λ n. n < length list.now) set.now }
 {
-    let mut args = Projection::new(alloc)?;
+    let mut args = Projection::new(alloc);
     args.push(choice)?;
     Ok(told_of_projection(check_projection(system, list, set, &args, &[0])))
 }
@@ -431,7 +431,7 @@ fn finds_components(rt: HostRuntime) -> Result<(), Fail> {
 
 /// A block of these numbers joins the others.
 fn add_block(alloc: Global, blocks: &mut Blocks, items: &[u32]) -> Result<(), AllocError> {
-    let mut block = Numbers::new(alloc)?;
+    let mut block = Numbers::new(alloc);
     for item in items {
         block.push(*item)?;
     }
@@ -440,7 +440,7 @@ fn add_block(alloc: Global, blocks: &mut Blocks, items: &[u32]) -> Result<(), Al
 
 /// Blocks of these numbers.
 fn blocks_of(alloc: Global, items: &[&[u32]]) -> Result<Blocks, AllocError> {
-    let mut blocks = Blocks::new(alloc)?;
+    let mut blocks = Blocks::new(alloc);
     for item in items {
         add_block(alloc, &mut blocks, *item)?;
     }

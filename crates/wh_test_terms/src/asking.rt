@@ -88,7 +88,7 @@ pub fn expect_answer(
     asked: Asked,
     expected: &[u8],
 ) -> Result<(), AllocError> {
-    let mut found = Bytes::new(alloc)?;
+    let mut found = Bytes::new(alloc);
     add_answer(alloc, &mut found, asked)?;
     expect_text(rt, found.as_slice(), expected);
     Ok(())

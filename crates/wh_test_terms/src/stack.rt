@@ -63,7 +63,7 @@ fn move_few(stack: &mut Vec<Term>, items: &mut Terms, two: bool) -> Result<(), A
 
 /// A meta-variable takes the last two terms, or the last one alone.
 fn take_few(alloc: Global, stack: &mut Vec<Term>, meta: u32, two: bool) -> Result<(), AllocError> {
-    let mut items = Terms::new(alloc)?;
+    let mut items = Terms::new(alloc);
     move_few(stack, &mut items, two)?;
     put(stack, Term::Meta(meta, items))
 }

@@ -124,14 +124,14 @@ fn text_fits(alloc: Global, text: &[u8]) -> Result<bool, AllocError> {
 
 /// Whether a symbol with an item that many times behind it fits.
 fn repeated_fits(alloc: Global, item: &[u8], times: u32) -> Result<bool, AllocError> {
-    let mut text = Bytes::new(alloc)?;
+    let mut text = Bytes::new(alloc);
     add_repeated(&mut text, item, times)?;
     text_fits(alloc, text.as_slice())
 }
 
 /// Whether a tree that branches at each of 15 levels fits, with such an end.
 fn balanced_fits(alloc: Global, end: &[u8]) -> Result<bool, AllocError> {
-    let mut text = Bytes::new(alloc)?;
+    let mut text = Bytes::new(alloc);
     add_balanced(&mut text, 15)?;
     text.append(end)?;
     text_fits(alloc, text.as_slice())
@@ -152,7 +152,7 @@ fn keeps_the_limits_of_terms(rt: HostRuntime) -> Result<(), Fail> {
 
 /// A path of these digits.
 fn path_of(alloc: Global, digits: &[u8]) -> Result<Path, AllocError> {
-    let mut path = Path::new(alloc)?;
+    let mut path = Path::new(alloc);
     for digit in digits {
         path.push(if *digit == b'0' { 0 } else { 1 })?;
     }
@@ -209,7 +209,7 @@ fn abstracted(alloc: Global, body: Term) -> Result<Term, AllocError>
 fn meta_of_bound(alloc: Global, i: u32, j: u32) -> Result<Term, AllocError>
     ensures { IfOk result (λ t. tm t ≡ meta 0 (more (bound i) (more (bound j) none))) }
 {
-    let mut items = Terms::new(alloc)?;
+    let mut items = Terms::new(alloc);
     items.push(Term::Bound(i))?;
     items.push(Term::Bound(j))?;
     Ok(Term::Meta(0, items))
@@ -356,7 +356,7 @@ pub fn add_closed(alloc: Global, out: &mut Bytes, term: &Term) -> Result<(), All
 fn bound_for_free(alloc: Global) -> Result<Subst, AllocError>
     ensures { IfOk result (λ by. All (λ entry. Manageable (tm entry.value)) by) }
 {
-    let mut by = Subst::new(alloc)?;
+    let mut by = Subst::new(alloc);
     by.push(SubstEntry {
         number: 3,
         kind: SimpleType::Sort(0),

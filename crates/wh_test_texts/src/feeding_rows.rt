@@ -78,7 +78,7 @@ fn add_fed(alloc: Global, out: &mut Bytes, bytes: &[u8]) -> Result<(), AllocErro
 
 /// What comes while the bytes are read, as a text.
 fn fed(alloc: Global, bytes: &[u8]) -> Result<Bytes, AllocError> {
-    let mut out = Bytes::new(alloc)?;
+    let mut out = Bytes::new(alloc);
     if bytes.len() < 1_000_000 {
         add_fed(alloc, &mut out, bytes)?;
     }

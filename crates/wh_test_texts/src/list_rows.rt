@@ -64,7 +64,7 @@ fn parts_of_a_type(rt: HostRuntime) -> Result<(), Fail> {
 
 /// Bytes that are pushed in both ways.
 fn pushed_bytes(alloc: Global) -> Result<Bytes, AllocError> {
-    let mut bytes = Bytes::new(alloc)?;
+    let mut bytes = Bytes::new(alloc);
     bytes.append(b"ye")?;
     bytes.push(b's')?;
     Ok(bytes)
@@ -72,7 +72,7 @@ fn pushed_bytes(alloc: Global) -> Result<Bytes, AllocError> {
 
 /// One number.
 fn pushed_number(alloc: Global) -> Result<Numbers, AllocError> {
-    let mut numbers = Numbers::new(alloc)?;
+    let mut numbers = Numbers::new(alloc);
     numbers.push(70000)?;
     Ok(numbers)
 }
@@ -92,7 +92,7 @@ fn keeps_numbers(alloc: Global) -> Result<bool, AllocError> {
 /// A block of one number and an empty one.
 fn add_blocks(alloc: Global, blocks: &mut Blocks) -> Result<(), AllocError> {
     blocks.push(pushed_number(alloc)?)?;
-    blocks.push(Numbers::new(alloc)?)
+    blocks.push(Numbers::new(alloc))
 }
 
 /// Whether these are a block of one number and an empty one.
@@ -105,7 +105,7 @@ fn are_added(blocks: &[Numbers]) -> bool {
 
 /// Whether the blocks are kept, by their lengths.
 fn keeps_blocks(alloc: Global) -> Result<bool, AllocError> {
-    let mut blocks = Blocks::new(alloc)?;
+    let mut blocks = Blocks::new(alloc);
     add_blocks(alloc, &mut blocks)?;
     Ok(are_added(blocks.as_slice()))
 }

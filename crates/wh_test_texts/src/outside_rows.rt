@@ -16,7 +16,7 @@ use wh_types::{Bytes, Or};
 
 /// Longer than two pieces, and no two pieces alike.
 fn long_text(alloc: Global) -> Result<Bytes, AllocError> {
-    let mut text = Bytes::new(alloc)?;
+    let mut text = Bytes::new(alloc);
     for i in 0..150_000u32 {
         text.push((i % 251) as u8)?;
     }

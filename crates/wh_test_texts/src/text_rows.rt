@@ -109,7 +109,7 @@ fn sort(alloc: Global, name: &[u8]) -> Result<RawType, AllocError>
     requires { IsWord name.now }
 {
     Ok(RawType {
-        args: RawTypes::new(alloc)?,
+        args: RawTypes::new(alloc),
         sort: Name::new(alloc, name)?,
         at: 0,
     })
@@ -144,7 +144,7 @@ fn add_two_names(alloc: Global, terms: &mut RawTerms) -> Result<(), AllocError> 
 
 /// A meta-variable with two names.
 fn meta(alloc: Global) -> Result<RawTerm, AllocError> {
-    let mut args = RawTerms::new(alloc)?;
+    let mut args = RawTerms::new(alloc);
     add_two_names(alloc, &mut args)?;
     Ok(RawTerm::Meta(Name::new(alloc, b"Z")?, args, 0))
 }

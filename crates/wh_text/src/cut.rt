@@ -226,7 +226,7 @@ pub fn tokens(alloc: Global, bytes: &[u8]) -> Result<Tokens, Or<TextFault>>
     requires { length bytes.now ≤ most_bytes + 1 }
     ensures { MatchOr result (IsCutInto bytes.now) (HasFault bytes.now) }
 {
-    let mut found = Tokens::new(alloc)?;
+    let mut found = Tokens::new(alloc);
     let mut at = 0;
     while at < bytes.len() {
         match piece_at(bytes, at)? {

@@ -129,7 +129,7 @@ fn print_each(out: &mut Bytes, first: u8, other: u8, terms: &RawTerms) -> Result
 pub fn print_raw(alloc: Global, term: &RawTerm) -> Result<Bytes, AllocError>
     ensures { IfOk result (λ bytes. bytes ≡ spelled (rtm term.now)) }
 {
-    let mut out = Bytes::new(alloc)?;
+    let mut out = Bytes::new(alloc);
     print_term(&mut out, term)?;
     Ok(out)
 }

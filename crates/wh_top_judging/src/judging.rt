@@ -59,7 +59,7 @@ fn shown(alloc: Global, problem: &Problem) -> Result<Bytes, AllocError>
     requires { HasPairs (system_data problem.now.system) (pairs_data problem.now.pairs) }
     ensures { IfOk result (λ text. text ≡ shown_text (system_data problem.now.system) (pairs_data problem.now.pairs)) }
 {
-    let mut text = Bytes::new(alloc)?;
+    let mut text = Bytes::new(alloc);
     text.append(b"SYSTEM\n")?;
     let system = print_system(alloc, &problem.system)?;
     text.append(system.as_slice())?;

@@ -33,13 +33,13 @@ pub struct Judge {
 
 impl Judge {
     /// Before the first byte.
-    pub fn new(alloc: Global) -> Result<Judge, AllocError>
-        ensures { IfOk result (λ judge. (d : SystemData) (ps : List PairData) → HasComeTo d ps judge []) }
+    pub fn new(alloc: Global) -> Judge
+        ensures { (d : SystemData) (ps : List PairData) → HasComeTo d ps result [] }
     {
-        Ok(Judge {
+        Judge {
             reader: CertReader::new(alloc),
-            walk: Walk::new(alloc)?,
-        })
+            walk: Walk::new(alloc),
+        }
     }
 
     /// All of these bytes more.
@@ -115,7 +115,7 @@ pub fn judge_file<S: Shelf>(
         (CertificateFault (S.held shelf.old cert.now) (S.faults shelf.old cert.now) (S.faults shelf.new cert.now)) }
     ensures kept { (other : List ℕ) → S.held shelf.new other ≡ S.held shelf.old other }
 {
-    let mut judge = Judge::new(alloc)?;
+    let mut judge = Judge::new(alloc);
     let mut buffer = zeros(alloc, PIECE)?;
     let mut pieces = Pieces::new(CERTIFICATE_LIMIT);
     loop {

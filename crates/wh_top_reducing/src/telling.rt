@@ -48,7 +48,7 @@ fn lines(alloc: Global, system: &System, reduced: &Reduced) -> Result<Bytes, All
     requires { WellTyped (system_data system.now).symbols (tm reduced.now.last) }
     ensures { IfOk result (λ text. text ≡ reduced_text (system_data system.now) reduced.now.steps (tm reduced.now.last) reduced.now.end) }
 {
-    let mut text = Bytes::new(alloc)?;
+    let mut text = Bytes::new(alloc);
     text.append(b"REDUCED ")?;
     print_number(&mut text, reduced.steps)?;
     text.push(b'\n')?;

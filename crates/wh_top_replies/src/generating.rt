@@ -143,7 +143,7 @@ fn nodes_of(certificate: &Certificate) -> u32
 fn text_of(alloc: Global, bytes: &[u8]) -> Result<Bytes, AllocError>
     ensures { IfOk result (λ text. text ≡ bytes.now) }
 {
-    let mut text = Bytes::new(alloc)?;
+    let mut text = Bytes::new(alloc);
     text.append(bytes)?;
     Ok(text)
 }
@@ -158,7 +158,7 @@ fn lines(
 ) -> Result<Bytes, AllocError>
     ensures { IfOk result (λ text. text ≡ generated_text n rules pairs outcome.now.nodes outcome.now.answer) }
 {
-    let mut text = Bytes::new(alloc)?;
+    let mut text = Bytes::new(alloc);
     put_line(&mut text, b"GEN ", n)?;
     put_line(&mut text, b"rules ", rules)?;
     put_line(&mut text, b"pairs ", pairs)?;

@@ -102,7 +102,7 @@ fn sort_names(alloc: Global, system: &System, sorts: &[u32]) -> Result<Names, Al
     requires { All (λ s. s < length (system_data system.now).sort_names) sorts.now }
     ensures { IfOk result (λ names. names ≡ map (sort_name (system_data system.now)) sorts.now) }
 {
-    let mut names = Names::new(alloc)?;
+    let mut names = Names::new(alloc);
     for sort in sorts {
         let name = system.sort_names()[*sort as usize].bytes();
         names.push(Name::new(alloc, name)?)?;
@@ -114,7 +114,7 @@ fn sort_names(alloc: Global, system: &System, sorts: &[u32]) -> Result<Names, Al
 fn copied(alloc: Global, numbers: &[u32]) -> Result<Numbers, AllocError>
     ensures { IfOk result (λ list. list ≡ numbers.now) }
 {
-    let mut list = Numbers::new(alloc)?;
+    let mut list = Numbers::new(alloc);
     for number in numbers {
         list.push(*number)?;
     }

@@ -60,7 +60,7 @@ fn verdict_line(alloc: Global, system: &System, verdict: &Verdict) -> Result<Byt
         Verdict::Refuted(set) => numbers_line(alloc, b"REFUTED", set.as_slice()),
         Verdict::Unrefuted(set) => numbers_line(alloc, b"UNREFUTED", set.as_slice()),
         Verdict::Unstuck(answer) => {
-            let mut text = Bytes::new(alloc)?;
+            let mut text = Bytes::new(alloc);
             text.append(b"UNSTUCK ")?;
             let line = answer_line(alloc, system, answer)?;
             text.append(line.as_slice())?;
@@ -88,7 +88,7 @@ fn answer_line(alloc: Global, system: &System, answer: &Answer) -> Result<Bytes,
 fn numbers_line(alloc: Global, word: &[u8], numbers: &[u32]) -> Result<Bytes, AllocError>
     ensures { IfOk result (λ text. text ≡ word.now ++ numbers_text numbers.now) }
 {
-    let mut text = Bytes::new(alloc)?;
+    let mut text = Bytes::new(alloc);
     text.append(word)?;
     for number in numbers {
         text.push(b' ')?;

@@ -21,12 +21,12 @@ impl<T> Model for List<T> {
 
 impl<T: Drop> List<T> {
     /// The empty list.
-    pub fn new(alloc: Global) -> Result<Self, AllocError>
-        ensures { IfOk result (λ list. list ≡ []) }
+    pub fn new(alloc: Global) -> Self
+        ensures { result ≡ [] }
     {
-        Ok(List {
+        List {
             items: Vec::new(alloc),
-        })
+        }
     }
 
     /// Puts an item at the end; without memory the list stays as it was.

@@ -53,7 +53,7 @@ pub fn numbers_of(alloc: Global, taken: &[bool]) -> Result<Numbers, AllocError>
     requires { length taken.now < 2 ^ 32 }
     ensures { IfOk result (IsSetOf (Says taken.now)) }
 {
-    let mut numbers = Numbers::new(alloc)?;
+    let mut numbers = Numbers::new(alloc);
     for number in 0..taken.len() as u32 {
         if says(taken, number as usize) {
             numbers.push(number)?;

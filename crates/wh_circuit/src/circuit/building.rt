@@ -16,11 +16,11 @@ use wh_sat_trail::{Clause, Clauses, Formula};
 
 impl Circuit {
     /// No input and no gate, and nothing is required.
-    pub fn new(alloc: Global) -> Result<Circuit, AllocError>
-        ensures { IfOk result (λ made. (gates_of made ≡ []) × (required_of made ≡ [])) }
+    pub fn new(alloc: Global) -> Circuit
+        ensures { (gates_of result ≡ []) × (required_of result ≡ []) }
     {
-        let clauses = Clauses::new(alloc)?;
-        Ok(Circuit {
+        let clauses = Clauses::new(alloc);
+        Circuit {
             alloc,
             formula: Formula {
                 variables: 0,
@@ -29,7 +29,7 @@ impl Circuit {
             gates: Vec::new(alloc),
             required: Vec::new(alloc),
             truth: None,
-        })
+        }
     }
 
     /// A new input: the next variable.
@@ -41,7 +41,7 @@ impl Circuit {
         ensures err { OnErr result (Unchanged self.old self.new) }
     {
         let number = self.formula.variables;
-        let of = Clause::new(self.alloc)?;
+        let of = Clause::new(self.alloc);
         self.gates.push(Gate { is_input: true, of })?;
         self.formula.variables = number + 1;
         Ok(Wire {
@@ -68,7 +68,7 @@ impl Circuit {
         ensures required { OnOk result (required_of self.new ≡ required_of self.old ++ a ∷ []) }
         ensures err { OnErr result (Unchanged self.old self.new) }
     {
-        let mut clause = Clause::new(self.alloc)?;
+        let mut clause = Clause::new(self.alloc);
         clause.push(a)?;
         self.required.reserve(1)?;
         self.formula.clauses.push(clause)?;

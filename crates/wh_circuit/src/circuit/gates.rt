@@ -60,7 +60,7 @@ impl Circuit {
             (λ kept. AreWires (gates_of self.now) kept
             × ((v : ℕ → Bool) → Agrees (gates_of self.now) v → all_true v kept ≡ all_true v of.now))) }
     {
-        let mut kept = Clause::new(self.alloc)?;
+        let mut kept = Clause::new(self.alloc);
         for wire in of {
             match self.constant(*wire) {
                 None => kept.push(*wire)?,
@@ -99,7 +99,7 @@ impl Circuit {
                 positive: true,
             });
         }
-        let none = Clause::new(self.alloc)?;
+        let none = Clause::new(self.alloc);
         let wire = self.gate(none)?;
         self.truth = Some(wire.variable);
         Ok(wire)

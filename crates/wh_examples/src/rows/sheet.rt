@@ -28,10 +28,10 @@ impl Sheet {
         Ok(Sheet {
             texts: Vec::new(alloc),
             given: empty(alloc)?,
-            certificate: Bytes::new(alloc)?,
-            changed: Bytes::new(alloc)?,
+            certificate: Bytes::new(alloc),
+            changed: Bytes::new(alloc),
             status: 0,
-            told: Bytes::new(alloc)?,
+            told: Bytes::new(alloc),
         })
     }
 
@@ -54,13 +54,13 @@ impl Sheet {
 fn empty(alloc: Global) -> Result<Given, AllocError> {
     Ok(Given {
         words: Vec::new(alloc),
-        system: Bytes::new(alloc)?,
+        system: Bytes::new(alloc),
         faults: SOUND,
     })
 }
 
 fn copied(alloc: Global, bytes: &[u8]) -> Result<Bytes, AllocError> {
-    let mut copy = Bytes::new(alloc)?;
+    let mut copy = Bytes::new(alloc);
     copy.append(bytes)?;
     Ok(copy)
 }
@@ -155,7 +155,7 @@ fn replaced(alloc: Global, bytes: &[u8], part: &str, to: &[u8]) -> Result<Bytes,
 
 // Three texts, one behind the other.
 fn joined(alloc: Global, front: &[u8], middle: &[u8], back: &[u8]) -> Result<Bytes, AllocError> {
-    let mut made = Bytes::new(alloc)?;
+    let mut made = Bytes::new(alloc);
     made.append(front)?;
     made.append(middle)?;
     made.append(back)?;

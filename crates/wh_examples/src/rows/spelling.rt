@@ -24,7 +24,7 @@ pub fn name_text(
 
 /// The text that is spelled like this: `|` stands for a line feed, and what is between `<` and `>` is filled in.
 pub fn spelled(alloc: Global, texts: &[Named], raw: &str) -> Result<Bytes, AllocError> {
-    let mut text = Bytes::new(alloc)?;
+    let mut text = Bytes::new(alloc);
     spell(alloc, texts, raw, 0, &mut text)?;
     Ok(text)
 }
@@ -36,7 +36,7 @@ pub fn spelled_each(
     raw: &str,
     times: u32,
 ) -> Result<Bytes, AllocError> {
-    let mut text = Bytes::new(alloc)?;
+    let mut text = Bytes::new(alloc);
     for number in 0..times {
         spell(alloc, texts, raw, number, &mut text)?;
     }

@@ -17,7 +17,7 @@ pub fn rejects_cuts(alloc: Global, given: &Given, certificate: &[u8]) -> Result<
 
 // The bytes with another one at this place.
 fn changed_at(alloc: Global, bytes: &[u8], place: usize, other: u8) -> Result<Bytes, AllocError> {
-    let mut changed = Bytes::new(alloc)?;
+    let mut changed = Bytes::new(alloc);
     for (at, byte) in bytes.iter().enumerate() {
         changed.push(if at == place { other } else { *byte })?;
     }

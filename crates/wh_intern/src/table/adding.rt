@@ -74,7 +74,7 @@ impl Table {
         ensures number { IfOk result (λ n. slice_get (trees self.new) n ≡ Some (t.meta meta (tms items.now))) }
         ensures grows { Grows (trees self.old) (trees self.new) (t.meta meta (tms items.now)) }
     {
-        let mut numbers = Numbers::new(self.alloc)?;
+        let mut numbers = Numbers::new(self.alloc);
         for item in items.as_slice() {
             let number = self.insert(item)?;
             numbers.push(number)?;

@@ -13,13 +13,13 @@ use std::alloc::{AllocError, Global};
 
 impl Table {
     /// The table without nodes.
-    pub fn new(alloc: Global) -> Result<Table, AllocError>
-        ensures { IfOk result (λ table. trees table ≡ []) }
+    pub fn new(alloc: Global) -> Table
+        ensures { trees result ≡ [] }
     {
-        Ok(Table {
+        Table {
             parts: IndexSet::new(alloc),
             alloc,
-        })
+        }
     }
 
     /// How many nodes there are.

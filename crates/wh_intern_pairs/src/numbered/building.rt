@@ -18,7 +18,7 @@ impl Numbered {
         requires { (d : SystemData) × HasPairs d (pairs_data pairs.now) }
         ensures { IfOk result (λ numbered. IsNumbering numbered (pairs_data pairs.now)) }
     {
-        let mut table = Table::new(alloc)?;
+        let mut table = Table::new(alloc);
         let sides = number_pairs(alloc, pairs, &mut table)?;
         Ok(Numbered { table, sides })
     }

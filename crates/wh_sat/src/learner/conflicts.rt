@@ -64,7 +64,7 @@ impl Learner {
 fn negations(alloc: Global, literals: &[Literal]) -> Result<Clause, AllocError>
     ensures { IfOk result (λ clause. clause ≡ map negated literals.now) }
 {
-    let mut clause = Clause::new(alloc)?;
+    let mut clause = Clause::new(alloc);
     for literal in literals {
         clause.push(Literal {
             variable: literal.variable,

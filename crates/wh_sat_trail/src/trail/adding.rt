@@ -37,7 +37,7 @@ impl Trail {
     {
         let assignment = Assignment::new(alloc, variables)?;
         let lists = empty_lists(alloc, 2 * variables as usize)?;
-        let clauses = Clauses::new(alloc)?;
+        let clauses = Clauses::new(alloc);
         Ok(Trail {
             formula: Formula { variables, clauses },
             assignment,

@@ -20,4 +20,4 @@ returns-clause-blocking c =
     let here = get_or_read firsts c.len.result c.index-variables.result.now within c.index-variables.ensures 0 in
     blocking_begun e c.in_ok-learner.learner made.sound
     (made.variables ∙ here ∙ ap (λ (n : ℕ). get_or firsts n 0) all ∙ c.requires.firsts (length (scopes_for e)) (omega arith))
-    (made.clauses ∙ c.in_ok-clauses.ensures)
+    (made.clauses ∙ c.new-clauses.ensures)

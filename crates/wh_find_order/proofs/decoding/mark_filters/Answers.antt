@@ -16,12 +16,12 @@ use Rattle.wh_find_order.proofs.decoding.mark_filters.Goals as goal
 pub loop-i-init : goal.loop-i-init
 loop-i-init c =
     let e = c.args.encoding.now in
-    let none = c.in_ok-marks.ensures in
+    let none = c.new-marks.ensures in
     let filters = λ (l : List MarkFilter). map (λ (m : MarkFilter). written_filter m.filter) l in
     record {
       count = ap length none;
       marks = ap (map (λ (m : MarkFilter). m.symbol)) none;
-      filters = no_filters e (value_of c.args.values.now) (symbols_in e) (filters c.in_ok-marks.marks) (ap filters none);
+      filters = no_filters e (value_of c.args.values.now) (symbols_in e) (filters c.new-marks.result) (ap filters none);
     }
 
 pub filter_at-requires-clause-within : goal.filter_at-requires-clause-within

@@ -14,10 +14,10 @@ use Rattle.wh_find_order.proofs.decoding.symbol_filters.Goals as goal
 
 pub loop-number-init : goal.loop-number-init
 loop-number-init c =
-    let none = c.in_ok-funs.ensures in
+    let none = c.new-funs.ensures in
     record {
       count = ap length none;
-      filters = no_filters c.args.encoding.now (value_of c.args.values.now) 0 (map written_filter c.in_ok-funs.funs) (ap (map written_filter) none);
+      filters = no_filters c.args.encoding.now (value_of c.args.values.now) 0 (map written_filter c.new-funs.result) (ap (map written_filter) none);
     }
 
 pub filter_at-requires-clause-within : goal.filter_at-requires-clause-within

@@ -8,7 +8,7 @@ use Rattle.wh_find_order.proofs.filters.places_by.Goals as goal
 pub loop-place-init : goal.loop-place-init
 loop-place-init c =
     let v = value_of c.args.values.now in
-    ap (λ (l : List ℕ). l ++ places_from v (c.args.from + 0) 1 (c.args.count - 0)) c.in_ok-made.ensures ∙ places_start v c.args.from c.args.count
+    ap (λ (l : List ℕ). l ++ places_from v (c.args.from + 0) 1 (c.args.count - 0)) c.new-made.ensures ∙ places_start v c.args.from c.args.count
 
 pub loop-place-preserved : goal.loop-place-preserved
 loop-place-preserved c =

@@ -9,7 +9,7 @@ use Rattle.wh_graph.proofs.component.row_at_places.Goals as goal
 use Rattle.wh_graph.proofs.component.row_at_places.Goals.{in-Ok+in_ok-push-in-Ok, in-Err}
 
 pub loop-number-init : goal.loop-number-init
-loop-number-init c = subst (λ (l : List ℕ). HasPlaces c.args.set.now c.args.row.now 0 l) (sym c.in_ok-placed.ensures) (places_none c.args.set.now c.args.row.now)
+loop-number-init c = subst (λ (l : List ℕ). HasPlaces c.args.set.now c.args.row.now 0 l) (sym c.new-placed.ensures) (places_none c.args.set.now c.args.row.now)
 
 pub loop-number-preserved : goal.loop-number-preserved
 loop-number-preserved c =

@@ -12,7 +12,7 @@ use Rattle.wh_graph.proofs.edges.row_of.Goals.{then-may_follow+in_ok-push, else-
 pub loop-other-init : goal.loop-other-init
 loop-other-init c =
     let P = Follows (system_data c.args.system.now).rules (map pair_data c.args.pairs.now) c.args.number in
-    subst (λ (row : List ℕ). HasBelow P 0 row) (sym c.in_ok-row.ensures) (below_none P)
+    subst (λ (row : List ℕ). HasBelow P 0 row) (sym c.new-row.ensures) (below_none P)
 
 pub loop-other-preserved : goal.loop-other-preserved
 loop-other-preserved c =

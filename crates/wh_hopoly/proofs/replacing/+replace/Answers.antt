@@ -495,7 +495,7 @@ replace_factor-returns-clause-fault t c =
 
 pub replace_arguments-loop-item-init : goal.replace_arguments-loop-item-init
 replace_arguments-loop-item-init t c =
-    laws.passing_starts (head_of c.args.replacement.now) c.args.replacement.now.variable (scope_of c.args.place.now.inner) (ty c.args.kind.now) c.as_slice-item-items.result.now (list c.in_ok-out.out) c.in_ok-out.ensures
+    laws.passing_starts (head_of c.args.replacement.now) c.args.replacement.now.variable (scope_of c.args.place.now.inner) (ty c.args.kind.now) c.as_slice-item-items.result.now (list c.new-out.result) c.new-out.ensures
     (subst (NormalArguments (scope_of c.args.place.now.inner) (ty c.args.kind.now)) (polys_is c.args.ps.now ∙ ap arguments_of (sym c.as_slice-item-items.ensures)) c.requires.normal)
 
 pub replace_arguments-replace-requires : goal.replace_arguments-replace-requires

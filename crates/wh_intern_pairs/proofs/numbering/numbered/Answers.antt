@@ -9,7 +9,7 @@ use Rattle.wh_intern_pairs.proofs.numbering.numbered.Goals as goal
 
 pub loop-place-init : goal.loop-place-init
 loop-place-init c = record {
-  sides = subst (λ l. AreSides (trees c.args.table.now) l []) (sym c.in_ok-list.ensures) (no_sides (trees c.args.table.now));
+  sides = subst (λ l. AreSides (trees c.args.table.now) l []) (sym c.new-list.ensures) (no_sides (trees c.args.table.now));
   joins = joins_none (trees c.args.table.now) (IsPartOfSides (map pair_data c.args.pairs.now));
 }
 

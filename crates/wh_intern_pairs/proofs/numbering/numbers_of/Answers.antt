@@ -9,7 +9,7 @@ use Rattle.wh_intern_pairs.proofs.numbering.numbers_of.Goals as goal
 
 pub loop-term-init : goal.loop-term-init
 loop-term-init c = record {
-  numbers = ap (map (slice_get (trees c.args.table.now))) c.in_ok-numbers.ensures;
+  numbers = ap (map (slice_get (trees c.args.table.now))) c.new-numbers.ensures;
   joins = joins_none (trees c.args.table.now) (IsPartOfOne (map tm c.args.terms.now));
 }
 

@@ -108,7 +108,7 @@ core_under-returns-in_err-argument-in-App-clause-built t c =
 pub cores_under-loop-item-init : goal.cores_under-loop-item-init
 cores_under-loop-item-init t c = record {
   kept = refl;
-  built = none_built (symbols c.args.signature.now) (declared_metas c.args.metas.now) (scope c.args.binders.now.items) c.args.room c.in_ok-results.results c.in_ok-results.ensures;
+  built = none_built (symbols c.args.signature.now) (declared_metas c.args.metas.now) (scope c.args.binders.now.items) c.args.room c.new-results.result c.new-results.ensures;
 }
 
 pub cores_under-argument_under-requires : goal.cores_under-argument_under-requires

@@ -15,8 +15,8 @@ use Rattle.wh_pairs_making.proofs.survivors.pairs.Goals as goal
 
 pub loop-i-init : goal.loop-i-init
 loop-i-init c = (
-  subst (λ (ps : List Pair). ArePairs [] (pairs_data ps)) (sym c.in_ok-list.ensures) none_left,
-  omega (arith, ap length c.in_ok-list.ensures),
+  subst (λ (ps : List Pair). ArePairs [] (pairs_data ps)) (sym c.new-list.ensures) none_left,
+  omega (arith, ap length c.new-list.ensures),
 )
 
 pub returns-then-as_slice-len-gt-MOST_PAIRS : goal.returns-then-as_slice-len-gt-MOST_PAIRS

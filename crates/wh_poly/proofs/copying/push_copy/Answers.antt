@@ -10,8 +10,8 @@ pub returns-then-is_empty : goal.returns-then-is_empty
 returns-then-is_empty c =
     let none : length c.as_slice.result.now ≤ 0 = search rules in
     product_copy (factors c.args.us.now) (factors c.push.new.self) _ c.args.item.now c.in_ok-push.ensures.ok (ap (λ r. r.head) (out-roll-Atom _))
-    (ap (λ r. polys r.args) (out-roll-Atom _) ∙ polys_is c.in_ok-args.args ∙ ap arguments_of c.in_ok-args.ensures
+    (ap (λ r. polys r.args) (out-roll-Atom _) ∙ polys_is c.new-args.result ∙ ap arguments_of c.new-args.ensures
     ∙ sym (no_arguments_left (out-Atom c.args.item.now).args c.as_slice.result.now c.as_slice.ensures none))
 
 pub returns : goal.returns
-returns c = product_copy (factors c.args.us.now) (factors c.push-2.new.self) _ c.args.item.now c.in_ok-push-2.ensures.ok (ap (λ r. r.head) (out-roll-Atom _)) (ap (λ r. polys r.args) (out-roll-Atom _) ∙ c.in_ok-args-2.ensures)
+returns c = product_copy (factors c.args.us.now) (factors c.push-2.new.self) _ c.args.item.now c.in_ok-push-2.ensures.ok (ap (λ r. r.head) (out-roll-Atom _)) (ap (λ r. polys r.args) (out-roll-Atom _) ∙ c.new-args-2.ensures)

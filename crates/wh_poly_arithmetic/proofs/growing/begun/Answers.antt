@@ -5,5 +5,5 @@ use Rattle.wh_poly_arithmetic.proofs.growing.begun.Goals as goal
 
 pub returns : goal.returns
 returns c =
-    begins (poly c.args.first) c.greatest_coefficient-greatest.result c.left_behind-left.result (factors c.in_ok-factors.factors) c.requires.ordered c.requires.within
-    c.greatest_coefficient-greatest.ensures c.fits.ensures c.left_behind-left.ensures c.in_ok-factors.ensures
+    begins (poly c.args.first) c.greatest_coefficient-greatest.result c.left_behind-left.result (factors c.new-factors.result) c.requires.ordered c.requires.within
+    c.greatest_coefficient-greatest.ensures c.fits.ensures c.left_behind-left.ensures c.new-factors.ensures

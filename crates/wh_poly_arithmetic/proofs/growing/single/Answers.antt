@@ -8,5 +8,5 @@ use Rattle.wh_poly_arithmetic.proofs.growing.single.Goals as goal
 
 pub returns : goal.returns
 returns c =
-    single_push c.push.new.self (monomials c.in_ok-value.value) _ c.args.coefficient (joined (factors c.args.factors)) c.in_ok-value.ensures c.in_ok-push.ensures.ok
+    single_push c.push.new.self (monomials c.new-value.result) _ c.args.coefficient (joined (factors c.args.factors)) c.new-value.ensures c.in_ok-push.ensures.ok
     (ap (λ r. r.coefficient) (out-roll-Monomial _)) (ap (λ r. atoms r.atoms) (out-roll-Monomial _) ∙ c.in_ok-atoms.ensures)

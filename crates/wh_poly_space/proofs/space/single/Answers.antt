@@ -11,5 +11,5 @@ pub returns-clause-factors : goal.returns-clause-factors
 returns-clause-factors c =
     let head : c.in_ok-head.head ≡ c.args.x = search rules in
     ap (λ r. atoms r.atoms) (out-roll-Monomial _)
-    ∙ one_factor c.push.new.self (factors c.in_ok-atoms.atoms) _ c.args.x no_arguments c.in_ok-atoms.ensures c.in_ok-push.ensures.ok
-    (ap (λ r. r.head) (out-roll-Atom _) ∙ head) (ap (λ r. polys r.args) (out-roll-Atom _) ∙ polys_is c.in_ok-args.args ∙ ap arguments_of c.in_ok-args.ensures)
+    ∙ one_factor c.push.new.self (factors c.new-atoms.result) _ c.args.x no_arguments c.new-atoms.ensures c.in_ok-push.ensures.ok
+    (ap (λ r. r.head) (out-roll-Atom _) ∙ head) (ap (λ r. polys r.args) (out-roll-Atom _) ∙ polys_is c.new-args.result ∙ ap arguments_of c.new-args.ensures)

@@ -13,7 +13,7 @@ pub loop-arg-init : goal.loop-arg-init
 loop-arg-init c =
     let d = system_data c.args.system.now in (
       omega arith,
-      subst (λ (cs : List Chosen). SayChoices d [] cs) (sym (ap (map chosen) c.in_ok-choices.ensures)) tt,
+      subst (λ (cs : List Chosen). SayChoices d [] cs) (sym (ap (map chosen) c.new-choices.ensures)) tt,
       leaves_all d (map said_arg c.args.args.now),
     )
 

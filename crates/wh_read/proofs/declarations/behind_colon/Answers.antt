@@ -14,7 +14,7 @@ returns-in_ok-purpose-in_default c =
     (λ parts. r.at_atype parts (held.purpose c.in_ok-purpose-in_default.purpose) (held.open_type c.in_ok-started-in_default.started) (held.letter l) c.args.at)
     (λ parts. r.behind_colon parts m (held.letter c.args.letter) c.args.at)
     (λ parts. ap (λ (p : Purpose). r.at_atype parts (held.purpose_of p) (held.open_type c.in_ok-started-in_default.started) (held.letter l) c.args.at) c.in_ok-purpose-in_default.ensures.ok
-    ∙ ap (λ ts. r.at_atype parts (r.of_meta m (rtys ts)) (held.open_type c.in_ok-started-in_default.started) (held.letter l) c.args.at) c.in_ok-args.ensures
+    ∙ ap (λ ts. r.at_atype parts (r.of_meta m (rtys ts)) (held.open_type c.in_ok-started-in_default.started) (held.letter l) c.args.at) c.new-args.ensures
     ∙ ap (λ t. r.at_atype parts (r.of_meta m (rtys [])) t (held.letter l) c.args.at) c.in_ok-started-in_default.ensures
     ∙ no_bracket parts m c.args.letter c.args.at c.in_default.not-OpenBracket)
     c.at_atype.ensures

@@ -9,4 +9,4 @@ use Rattle.wh_read.proofs.types.sort_in_type.Goals as goal
 pub returns : goal.returns
 returns c =
     subst (λ (a : RTy). IfOk c.had_atype.result (λ step. (parts : _) → held.state parts step ≡ r.had_atype parts (held.purpose c.args.purpose) (rtys c.args.started.args) (held.types_in [] c.args.started.outer.items) a))
-    (rty_made c.in_ok-args.args c.args.sort c.args.at ∙ ap (λ ts. raw_type (rtys ts) c.args.sort c.args.at) c.in_ok-args.ensures) c.had_atype.ensures
+    (rty_made c.new-args.result c.args.sort c.args.at ∙ ap (λ ts. raw_type (rtys ts) c.args.sort c.args.at) c.new-args.ensures) c.had_atype.ensures

@@ -6,7 +6,7 @@ use Rattle.wh_sat_listed.proofs.hints.hints_for.Goals as goal
 
 pub loop-hints-init : goal.loop-hints-init
 loop-hints-init c = (
-  at_start c.args.variables c.args.clauses.now (map negated c.args.clause.now) c.suppose.new.truth c.in_ok-hints.hints c.in_ok-hints.ensures
+  at_start c.args.variables c.args.clauses.now (map negated c.args.clause.now) c.suppose.new.truth c.new-hints.result c.new-hints.ensures
       c.suppose.ensures.tells,
   refl,
 )

@@ -17,8 +17,8 @@ First rules t o = MatchOption o (IsNormal rules t) (λ s. StepsFirstBy rules t s
 
 pub loop-taken-init : goal.loop-taken-init
 loop-taken-init c =
-    stands_first (rewrite_rules c.args.rules.now) (tm c.args.term.now) (tm c.in_ok-here.here) c.in_ok-place.place c.size-total.result c.in_ok-here.ensures c.requires.fits c.requires.shut c.requires.plain
-    (ap length c.in_ok-place.ensures) c.size-total.ensures
+    stands_first (rewrite_rules c.args.rules.now) (tm c.args.term.now) (tm c.in_ok-here.here) c.new-place.result c.size-total.result c.in_ok-here.ensures c.requires.fits c.requires.shut c.requires.plain
+    (ap length c.new-place.ensures) c.size-total.ensures
 
 pub loop-taken-preserved : goal.loop-taken-preserved
 loop-taken-preserved c =

@@ -24,5 +24,5 @@ raw_type-bounds-sorts-result_sort t c =
 pub raw_type-returns : goal.raw_type-returns
 raw_type-returns t c =
     ap (λ (xs : List RawType). rty (roll-RawType (record { args = xs; sort = c.in_ok-copy_of.field-0; at = 0 }))) c.args-2.view_is
-    ∙ made_type c.args.sorts.now (ty c.args.kind.now) c.push_arguments.new.args c.in_ok-args.args c.result_sort.result c.index-sorts-result_sort.result c.in_ok-copy_of.field-0
-    c.in_ok-args.ensures c.in_ok-push_arguments.ensures c.result_sort.ensures (result_there (length c.args.sorts.now) (ty c.args.kind.now) c.requires) (c.in_ok-copy_of.ensures ∙ c.index-sorts-result_sort.is)
+    ∙ made_type c.args.sorts.now (ty c.args.kind.now) c.push_arguments.new.args c.new-args.result c.result_sort.result c.index-sorts-result_sort.result c.in_ok-copy_of.field-0
+    c.new-args.ensures c.in_ok-push_arguments.ensures c.result_sort.ensures (result_there (length c.args.sorts.now) (ty c.args.kind.now) c.requires) (c.in_ok-copy_of.ensures ∙ c.index-sorts-result_sort.is)

@@ -21,7 +21,7 @@ loop-fun-init c =
     let xs = c.args.funs.now in
     let S = c.args.sorts.now in
     let e = c.new-names.ensures in
-    let k = c.in_ok-kinds.ensures in (
+    let k = c.new-kinds.ensures in (
       ap (λ t. first_fault (fun_tests S t (map rfun xs))) (sym e),
       map_fused rfun (λ (f : RFun). f.name.name) xs ∙ ap (λ t. t ++ map (λ (f : RawFun). (rfun f).name.name) xs) (sym e),
       map_fused rfun (λ (f : RFun). type_of_raw S f.kind) xs ∙ ap (λ t. tys t ++ map (λ (f : RawFun). type_of_raw S (rfun f).kind) xs) (sym k),

@@ -21,7 +21,7 @@ loop-meta-init c =
     let S = c.args.sorts.now in
     let F = c.args.funs.now in
     let e = c.new-names.ensures in
-    let k = c.in_ok-declared.ensures in (
+    let k = c.new-declared.ensures in (
       ap (λ t. first_fault (meta_tests S F t (map rmeta xs))) (sym e),
       map_fused rmeta (λ (m : RMeta). m.name.name) xs ∙ ap (λ t. t ++ map (λ (m : RawMeta). (rmeta m).name.name) xs) (sym e),
       map_fused rmeta (declared_by S) xs ∙ ap (λ t. declared_metas t ++ map (λ (m : RawMeta). declared_by S (rmeta m)) xs) (sym k),

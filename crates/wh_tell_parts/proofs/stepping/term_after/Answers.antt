@@ -10,12 +10,12 @@ pub step_at-requires-clause-shut : goal.step_at-requires-clause-shut
 step_at-requires-clause-shut c =
     let S = (system_data c.args.system.now).symbols in
     let t = tm c.args.term.now in
-    let told = told_over _ S c.in_ok-no_metas.no_metas t c.in_ok-found.field-0 c.signature.ensures c.in_ok-no_metas.ensures c.in_ok-found.ensures in
+    let told = told_over _ S c.new-no_metas.result t c.in_ok-found.field-0 c.signature.ensures c.new-no_metas.ensures c.in_ok-found.ensures in
     typed_loose (told_some S [] [] t c.in_ok-found.field-0 c.in-Some.found c.in-Some.is told)
 
 pub step_at-requires-clause-plain : goal.step_at-requires-clause-plain
 step_at-requires-clause-plain c =
     let S = (system_data c.args.system.now).symbols in
     let t = tm c.args.term.now in
-    let told = told_over _ S c.in_ok-no_metas.no_metas t c.in_ok-found.field-0 c.signature.ensures c.in_ok-no_metas.ensures c.in_ok-found.ensures in
+    let told = told_over _ S c.new-no_metas.result t c.in_ok-found.field-0 c.signature.ensures c.new-no_metas.ensures c.in_ok-found.ensures in
     typed_term t (told_some S [] [] t c.in_ok-found.field-0 c.in-Some.found c.in-Some.is told)

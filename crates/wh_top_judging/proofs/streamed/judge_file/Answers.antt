@@ -15,7 +15,7 @@ loop-count-init g c =
       so_far = (
         [],
         record {
-          come = c.in_ok-judge.ensures (system_data c.args.problem.now.system) (pairs_data c.args.problem.now.pairs);
+          come = c.new-judge.ensures (system_data c.args.problem.now.system) (pairs_data c.args.problem.now.pairs);
           counted = given;
           front = λ file told. sym (ap (λ (k : ℕ). take k file) given);
         },
