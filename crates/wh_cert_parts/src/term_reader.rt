@@ -17,8 +17,7 @@ use crate::type_reader::{TypePlace, TypeStep, type_step};
 use std::alloc::{AllocError, Global};
 use std::mem;
 use wh_cert_letters::{Letters, begins_name, first_number, next_number};
-use wh_nesting::opens_in_certificate;
-use wh_text::{RawTerm, RawTerms, RawType, RawTypes};
+use wh_text::{RawTerm, RawTerms, RawType, RawTypes, opens_in_certificate};
 
 /// The arguments of a spine are that many at most.
 const MOST_ARGUMENTS: usize = 32;

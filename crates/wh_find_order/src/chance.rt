@@ -12,7 +12,7 @@ use crate::blocking::Failing;
 use crate::encoding::Encoding;
 use std::alloc::{AllocError, Global};
 use wh_poly_blocking::bit;
-use wh_random::Random;
+use wh_poly_space::Random;
 use wh_sat_trail::{Clause, Literal};
 use wh_types::SimpleType;
 

@@ -8,8 +8,7 @@ use crate::known::{Case, Known};
 use std::alloc::{AllocError, Global};
 use std::collections::VecDeque;
 use wh_poly_guesses::{Outcome, Uses};
-use wh_poly_space::MAX_COEFFICIENT;
-use wh_random::Random;
+use wh_poly_space::{MAX_COEFFICIENT, Random};
 
 /// A coefficient, told by the number of what is used and by its place, and a value for it.
 #[derive(Clone, Copy)]

@@ -14,9 +14,8 @@ use crate::lexeme::Lexeme;
 use crate::place::{Frame, OpenRule, Place, Purpose, Step};
 use crate::types::want_type;
 use std::alloc::{AllocError, Global};
-use wh_nesting::opens_in_system;
 use wh_system_parts::{Parts, RawName, RawRule};
-use wh_text::{RawBinder, RawTerm, RawTerms, RawType};
+use wh_text::{RawBinder, RawTerm, RawTerms, RawType, opens_in_system};
 
 /// The spine with one more argument.
 fn longer(

@@ -1,6 +1,5 @@
 //! A small generator of numbers by chance, which begins with a fixed one: so each search goes the same way when it is
 //! run again.
-#![tactic(auto)]
 
 ghost use Rattle.std.specs.Prelude.{◌<◌};
 

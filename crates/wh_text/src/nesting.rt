@@ -1,5 +1,4 @@
 //! How deep terms nest in the texts that are read: the limits of wh_types, as tests before one more level opens.
-#![tactic(auto)]
 
 ghost use Rattle.std.specs.Prelude.{◌≡◌, nat_lt};
 ghost use Rattle.wh_types.specs.Limits.{deepest_certificate_term, deepest_term};
