@@ -262,9 +262,6 @@ yes_same s.second h p q a b = refl
 yes_same s.third (y.so_far version ranks pairs nodes k) p q a b =
     ap (λ (e : List Item). yes_head version ranks pairs ∷ (map node nodes ++ e)) (b ∙ sym a)
 
-abbrev yes_out : y.Past → y.Item → Option Item
-yes_out h i = handed_yes h (y.gives i y.front)
-
 yes_gives : (k : ℕ) (h : y.Past) (p q : y.Place) (i : y.Item) → r.GoodPast k (s.item_from i) h → closed_yes p ≡ [] → EndsYes (y.gives i q)
     → yes_items (s.item_to i) (y.gather h i) q ≡ yes_items (s.item_from i) h p ++ option_to_list (handed_yes h (y.gives i q))
 yes_gives k (y.so_far version ranks pairs nodes w) p q (y.version_item v) g a ends = refl

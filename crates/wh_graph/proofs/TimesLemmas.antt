@@ -123,9 +123,6 @@ once_even set blocks n (j, k, below, stands, one) (found, inr missing) = missing
 
 -- a number stands in a list or does not
 
-stands_later : (block : List ℕ) (blocks : List (List ℕ)) (i k n : ℕ) → StandsAt blocks i k n → StandsAt (block ∷ blocks) (suc i) k n
-stands_later block blocks i k n stands = stands
-
 listed_cons : (block : List ℕ) (blocks : List (List ℕ)) (n : ℕ) → (Contains block n → ⊥) → (IsListed blocks n → ⊥) → (i k : ℕ) → StandsAt (block ∷ blocks) i k n → ⊥
 listed_cons block blocks n first rest zero k (list, at, stands) =
     let one : block ≡ list = cc in first (contains_at block k n (ap (λ l. slice_get l k) one ∙ stands))

@@ -32,9 +32,6 @@ adds_then a b c P Q R k l n x y f g h = record {
 pub tree_found : (ts : List Tm) (n : ℕ) (u : Tm) → slice_get ts n ≡ Some u → tree_at ts n ≡ u
 tree_found ts n u e = get_or_from_slice_get ts n u (t.bound 0) e
 
-is_in_app : (u v s : Tm) → IsPart s u ⊎ IsPart s v → IsPart s (t.app u v)
-is_in_app u v s h = inr h
-
 -- an abstraction
 pub lam_tree : (b : List Tm) (a : Ty) (n : ℕ) (u w : Tm) → slice_get b n ≡ Some u → w ≡ t.lam a u → tree_of b (lam a n) ≡ w
 lam_tree b a n u w e is = ap (t.lam a) (tree_found b n u e) ∙ sym is

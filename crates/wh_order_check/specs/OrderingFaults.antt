@@ -20,10 +20,6 @@ use Rattle.wh_order_node.specs.Ordering.{IsGoodRule, IsGoodPair, IsStrictWhere, 
 use Rattle.wh_order_check.specs.declared.fault.OrderingFault.{OrderingFault}
 use Rattle.wh_order_check.specs.declared.fault.OrderingFault.TheVariants.{BadFilter, BadLines, BadDrop, WideRule, WidePair, BadRule, BadPair, NotStrict}
 
--- the inferences of a line nest at most 64 deep, and there are fewer than 2^32 of them
-abbrev pub IsCounted : Inference → Type 0
-IsCounted i = InferenceFits 0 i × (entries i < 2 ^ 32)
-
 -- the filter of the symbol f is the first that is not proper
 abbrev pub IsFirstImproper : Symbols → FilteringData → ℕ → Type 0
 IsFirstImproper S D f =

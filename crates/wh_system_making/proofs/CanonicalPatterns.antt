@@ -163,10 +163,6 @@ with-known s left bs (raw_lam x a t at) u p q = and_tests (new_meta_tests s left
 with-known s left bs (spine h ts at) u p q =
     let parts = passed_parts (new_meta_tests s left bs h) (new_metas_tests s left bs ts) p in and_tests (new_meta_tests s left bs h) _ parts.0 (last-known s left bs ts u parts.1 q)
 
--- each meta-variable that occurs in the tree is in the left side
-abbrev InLeft : Scope → RTm → ℕ → Type 0
-InLeft s left z = occurs s [] (name_at s.metas z) left ≡ true
-
 mutual
   pub raw_known : (s : Scope) → IsClear s → (left : RTm) (t : Tm) (d : ℕ) → IsNamedBelow (names_in s) d t → ((z : ℕ) → Occurs z t → occurs s [] (name_at s.metas z) left ≡ true)
       → Passed (new_meta_tests s left (numbers_below d) (raw_below (names_in s) d t))

@@ -103,9 +103,6 @@ mutual
 pub value_same : (g h : ℕ → Body) (t : Tm) → ((z : ℕ) → g z ≡ h z) → value g t ≡ value h t
 value_same g h t e = ap (λ f. value f t) (fun_ext e)
 
-cons_same : (t : Tm) (σ τ : ℕ → Tm) → ((i : ℕ) → σ i ≡ τ i) → (i : ℕ) → cons t σ i ≡ cons t τ i
-cons_same t σ τ h i = ap (λ σ. cons t σ i) (fun_ext h)
-
 pub parameters_same : (ts : Tms) (σ τ : ℕ → Tm) → ((i : ℕ) → σ i ≡ τ i) → (i : ℕ) → parameters ts σ i ≡ parameters ts τ i
 parameters_same ts σ τ h i = ap (λ σ. parameters ts σ i) (fun_ext h)
 

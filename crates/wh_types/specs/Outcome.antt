@@ -9,16 +9,8 @@ IfBecause (Ok _) P = Unit {0}
 IfBecause (Err NoMemory) P = Unit {0}
 IfBecause (Err (Because e)) P = P e
 
--- the same for a fact that does not depend on the cause
-abbrev pub OnBecause : {T E : Type 0} → Result T (Or E) → Type 0 → Type 0
-OnBecause r P = IfBecause r (λ _. P)
-
 -- P of the value, or Q of the cause; nothing is said of want of memory
 abbrev pub MatchOr : {T E : Type 0} → Result T (Or E) → (T → Type 0) → (E → Type 0) → Type 0
 MatchOr (Ok x) P Q = P x
 MatchOr (Err NoMemory) P Q = Unit {0}
 MatchOr (Err (Because e)) P Q = Q e
-
--- the call gave this very cause
-abbrev pub IsBecause : {T E : Type 0} → Result T (Or E) → E → Type 0
-IsBecause r e = r ≡ Err (Because e)
