@@ -4,7 +4,7 @@ ghost use Rattle.std.specs.Prelude.{◌≡◌, ◌++◌, ℕ, List, Some, map, c
 ghost use Rattle.wh_answer.specs.Texts.{report_text};
 ghost use Rattle.wh_answer.specs.declared.report.Report.TheVariants.{OutOfMemory};
 ghost use Rattle.wh_top_judging.specs.Outcomes.{BeginsWith, Told, outside};
-ghost use Rattle.wh_top_replies.specs.Run.{Answers, EndsWith, MeansYes, SaysNo};
+ghost use Rattle.wh_top_replies.specs.Run.{Answers, EndsWith, MeansYes, SaysNo, TextSaysNo};
 ghost use Rattle.wh_top_replies.specs.Words.{AsksWhether};
 
 use std::alloc::Global;
@@ -29,6 +29,10 @@ pub fn run<S: Shelf, K: Sink>(alloc: Global, words: &[String], shelf: &mut S, ou
     ensures non_termination { (before output : List ℕ) → K.written out.old ≡ Some before → K.written out.new ≡ Some (before ++ output)
         → BeginsWith (codes "NO") output
         → SaysNo (outside (S.held shelf.old) (S.faults shelf.old) (S.faults shelf.new)) (map string_bytes words.now) output }
+    ensures certificate { (status : Status) (text : List ℕ)
+        → Answers (outside (S.held shelf.old) (S.faults shelf.old) (S.faults shelf.new)) (map string_bytes words.now) status text
+        → BeginsWith (codes "NO") text
+        → TextSaysNo (outside (S.held shelf.old) (S.faults shelf.old) (S.faults shelf.new)) (map string_bytes words.now) text }
     ensures kept { (other : List ℕ) → S.held shelf.new other ≡ S.held shelf.old other }
 {
     let Some(command) = read_words(words) else {

@@ -34,7 +34,7 @@ use Rattle.wh_top_judging.specs.Texts.{Tells}
 use Rattle.wh_cert_upgrade.specs.Upgraded.{upgraded}
 use Rattle.wh_top_upgrading.specs.Upgrading.{IsAccepted, IsUpgradedText, StandsForUpgrade}
 use Rattle.wh_cert.specs.Text.{text as spelling}
-use Rattle.wh_top_replies.specs.Run.{Answers, EndsWith, MeansYes, MeansNo, Replies, SaysNo, ShowsUpgraded}
+use Rattle.wh_top_replies.specs.Run.{Answers, EndsWith, MeansYes, MeansNo, Replies, SaysNo, TextSaysNo, ShowsUpgraded}
 
 -- a system that is read and has a valid YES certificate
 pub yes_means : (system : List ℕ) (d : SystemData) (ps : List PairData) (c : Cert) → Reads system d → HasPairs d ps → IsYes c
@@ -243,15 +243,10 @@ termination s words status text old new f g result answers ends before output e 
     by more begun (inr (inr (file, cert, asks, shows))) =
         (file, inr (inr (cert, asks)), λ system held. by_upgraded cert system more begun (shows.found system held))
 
--- an output that begins with NO means what it says
-pub non_termination : (s : Shelves) (words : List (List ℕ)) (status : Status) (text : List ℕ) (old new : Option (List ℕ)) (f g : ℕ)
-    (result : Status) → Answers s words status text → EndsWith old new f g status text result
-    → (before output : List ℕ) → old ≡ Some before → new ≡ Some (before ++ output) → BeginsWith (codes "NO") output
-    → SaysNo s words output
-non_termination s words status text old new f g result answers ends before output e h (rest, begins) =
-    let (back, cut) = output_front old new f g status result before text output ends e h in
-    let begun = cut ∙ ap (λ x. x ++ back) begins in
-    by _ begun back cut (only_no_answers s words status text _ answers begun)
+-- a text that answers and begins with NO means what it says
+pub text_says_no : (s : Shelves) (words : List (List ℕ)) (status : Status) (text : List ℕ) → Answers s words status text
+    → BeginsWith (codes "NO") text → TextSaysNo s words text
+text_says_no s words status text answers (rest, begun) = by _ begun (only_no_answers s words status text _ answers begun)
   where
     by_system : (cert system certificate : List ℕ) → s.held cert ≡ Some certificate → (length system ≤ system_limit)
         × (d : SystemData) × (ps : List PairData) × Reads system d × HasPairs d ps × Checked (s.held cert) d ps No
@@ -277,26 +272,19 @@ non_termination s words status text old new f g result answers ends before outpu
         → MeansNo system text
     by_upgraded cert system more begun (within, d, ps, reads, has, (c, (is, spelled), told)) = accepted system more d ps c begun reads spelled is
 
-    by : (more : List ℕ) → text ≡ 78 ∷ more → (back : List ℕ) → text ≡ output ++ back → IsAnswerTo s words status text No → SaysNo s words output
-    by more begun back cut (inl (file, cert, asks, stands)) =
+    by : (more : List ℕ) → text ≡ 78 ∷ more → IsAnswerTo s words status text No → TextSaysNo s words text
+    by more begun (inl (file, cert, asks, stands)) =
         inl (file, cert, asks, λ system held certificate certified. by_system cert system certificate certified (stands system held))
-    by more begun back cut (inr (inl (file, b, asks, shows))) =
-        inr (inl (
-          file,
-          b,
-          text,
-          asks,
-          subst (λ k. ShowsFound s file (options_of b) k text) shows.status_is shows,
-          (back, cut),
-          λ system held. by_found (options_of b) system more begun (shows.found system held),
-        ))
-    by more begun back cut (inr (inr (file, cert, asks, shows))) =
-        inr (inr (
-          file,
-          cert,
-          text,
-          asks,
-          subst (λ k. ShowsUpgraded s file cert k text) shows.status_is shows,
-          (back, cut),
-          λ system held. by_upgraded cert system more begun (shows.found system held),
-        ))
+    by more begun (inr (inl (file, b, asks, shows))) =
+        inr (file, inl (b, asks), λ system held. by_found (options_of b) system more begun (shows.found system held))
+    by more begun (inr (inr (file, cert, asks, shows))) =
+        inr (file, inr (cert, asks), λ system held. by_upgraded cert system more begun (shows.found system held))
+
+-- an output that begins with NO means what it says
+pub non_termination : (s : Shelves) (words : List (List ℕ)) (status : Status) (text : List ℕ) (old new : Option (List ℕ)) (f g : ℕ)
+    (result : Status) → Answers s words status text → EndsWith old new f g status text result
+    → (before output : List ℕ) → old ≡ Some before → new ≡ Some (before ++ output) → BeginsWith (codes "NO") output
+    → SaysNo s words output
+non_termination s words status text old new f g result answers ends before output e h (rest, begins) =
+    let (back, cut) = output_front old new f g status result before text output ends e h in
+    (text, (back, cut), text_says_no s words status text answers (rest ++ back, cut ∙ ap (λ x. x ++ back) begins))

@@ -18,7 +18,7 @@ use Rattle.wh_answer.specs.declared.report.Report.{Report}
 use Rattle.wh_answer.specs.declared.report.Report.TheVariants as answer
 use Rattle.wh_answer.specs.Texts.{line, report_text}
 use Rattle.wh_top_words.specs.Words.{Bounds, Request, check, prove, show, gen, reduce, upgrade, refute, Asks}
-use Rattle.wh_top_replies.specs.Words.{options_of}
+use Rattle.wh_top_replies.specs.Words.{options_of, AsksForCertificate}
 use Rattle.wh_top_judging.specs.Texts.{IsShown, Tells}
 use Rattle.wh_top_judging.specs.Outcomes.{Shelves, BeginsWith, Told, ToldSystem, StandsBySystem, Stands}
 use Rattle.wh_top_replies.specs.Proving.{ShowsFound, StandsForSearch}
@@ -105,14 +105,14 @@ pub record MeansNo (system cert : List ℕ) : Type 0 where
   pub claims : Says data_read certificate claim
   pub unbounded : Unbounded data_read.rules claim.term
 
--- what an output that begins with NO says, of these words: it answers a check, and means what NO means of the two
--- files; or it is the front part of the text that answers a search or an upgrade, and means that of the file and of
--- this text
-abbrev pub SaysNo : Shelves → List (List ℕ) → List ℕ → Type 0
-SaysNo s words output =
+-- what a text that begins with NO says where these words ask: of a check, what NO means of the system file and the
+-- certificate file; of a search or an upgrade, what it means of the system file and the text itself
+abbrev pub TextSaysNo : Shelves → List (List ℕ) → List ℕ → Type 0
+TextSaysNo s words text =
     ((file cert : List ℕ) × Asks words (check file cert)
     × Told (s.held file) (λ system. Told (s.held cert) (λ certificate. MeansNo system certificate)))
-    ⊎ ((file : List ℕ) × (b : Bounds) × (text : List ℕ) × Asks words (prove file b)
-    × ShowsFound s file (options_of b) Answered text × BeginsWith output text × Told (s.held file) (λ system. MeansNo system text))
-    ⊎ ((file cert text : List ℕ) × Asks words (upgrade file cert) × ShowsUpgraded s file cert Answered text × BeginsWith output text
-    × Told (s.held file) (λ system. MeansNo system text))
+    ⊎ ((file : List ℕ) × AsksForCertificate words file × Told (s.held file) (λ system. MeansNo system text))
+
+-- an output says so by the text that it is, or whose first bytes it is
+abbrev pub SaysNo : Shelves → List (List ℕ) → List ℕ → Type 0
+SaysNo s words output = (text : List ℕ) × BeginsWith output text × TextSaysNo s words text

@@ -13,3 +13,8 @@ abbrev pub AsksWhether : List (List ℕ) → List ℕ → Type 0
 AsksWhether words file =
     ((cert : List ℕ) × Asks words (check file cert)) ⊎ ((b : Bounds) × Asks words (prove file b))
     ⊎ ((cert : List ℕ) × Asks words (upgrade file cert))
+
+-- the words ask for a certificate of the system in the file: by a search, or by an upgrade of one
+abbrev pub AsksForCertificate : List (List ℕ) → List ℕ → Type 0
+AsksForCertificate words file =
+    ((b : Bounds) × Asks words (prove file b)) ⊎ ((cert : List ℕ) × Asks words (upgrade file cert))

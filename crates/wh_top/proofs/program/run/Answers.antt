@@ -4,7 +4,7 @@ use Rattle.wh_top_words.specs.Asked.{request}
 use Rattle.wh_top_judging.specs.Outcomes.{Shelves, outside}
 use Rattle.wh_top_replies.specs.Run.{Replies}
 use Rattle.wh_top_replies.proofs.Complete.{served}
-use Rattle.wh_top_replies.proofs.Meaning.{termination, non_termination}
+use Rattle.wh_top_replies.proofs.Meaning.{termination, non_termination, text_says_no}
 use Rattle.wh_top.proofs.program.run.Goals as goal
 
 pub returns-in-Ok-clause-answer : goal.returns-in-Ok-clause-answer
@@ -44,3 +44,12 @@ pub returns-in-Err-clause-non_termination : goal.returns-in-Err-clause-non_termi
 returns-in-Err-clause-non_termination g c =
     let s : Shelves = outside (g.S.Shelf.held c.args.shelf.now) (g.S.Shelf.faults c.args.shelf.now) (g.S.Shelf.faults c.reply_to.new.shelf) in
     non_termination s _ _ _ _ _ _ _ _ (inr (inr (record { asks = (request c.in-Some.command, c.in-Some.ensures); status_is = refl; text_is = refl }))) c.report_no_memory.ensures
+
+pub returns-in_default-clause-certificate : goal.returns-in_default-clause-certificate
+returns-in_default-clause-certificate g c = text_says_no _ _
+
+pub returns-in-Ok-clause-certificate : goal.returns-in-Ok-clause-certificate
+returns-in-Ok-clause-certificate g c = text_says_no _ _
+
+pub returns-in-Err-clause-certificate : goal.returns-in-Err-clause-certificate
+returns-in-Err-clause-certificate g c = text_says_no _ _
