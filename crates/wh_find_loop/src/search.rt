@@ -67,7 +67,7 @@ fn certify(
     requires start { IsStart (system_data system.now).rules entry.now.visit.start (tm start.now) }
     requires fits { Fits (tm start.now) }
     requires leads { EndsAt (system_data system.now) entry.now ending.step (tm start.now) ending.instance }
-    ensures { (level : ℕ) → entry.now.level < level → level ≤ 100
+    ensures { (level : ℕ) → entry.now.level < level → level < 2 ^ 32
         → IfOk result (λ c. IsLoopCertificate (system_data system.now) level (said_no c.value)) }
 {
     let mut steps = steps_to(alloc, entries, entry)?;
@@ -91,7 +91,7 @@ fn try_step(
     requires at { at < length listing.old.entries.items }
     requires below { AreBelow level (at + 1) listing.old.entries.items }
     requires few { length listing.old.entries.items < 2 ^ 32 }
-    requires deep { level ≤ 100 }
+    requires deep { level < 2 ^ 32 }
     ensures { IfOk result (λ found. Tries (system_data setting.now.system.now) level at step listing.old found listing.new) }
 {
     setting.system.is_well_made();
@@ -139,7 +139,7 @@ fn search_entry(
     requires below { AreBelow level (at + 1) listing.old.entries.items }
     requires done { AreDone (system_data setting.now.system.now) listing.old.entries.items at }
     requires fewer { length listing.old.entries.items < visited }
-    requires deep { level ≤ 100 }
+    requires deep { level < 2 ^ 32 }
     ensures { IfOk result (Comes (system_data setting.now.system.now) level visited
         (GoesOn (system_data setting.now.system.now) level visited (at + 1) listing.old.entries.items listing.new)
         listing.new) }
@@ -173,7 +173,7 @@ fn search_level(
     requires below { AreBelow level (length listing.old.entries.items) listing.old.entries.items }
     requires done { AreDone (system_data setting.now.system.now) listing.old.entries.items from }
     requires fewer { length listing.old.entries.items < visited }
-    requires deep { level ≤ 100 }
+    requires deep { level < 2 ^ 32 }
     ensures { IfOk result (Comes (system_data setting.now.system.now) level visited
         (GoesOn (system_data setting.now.system.now) level visited (length listing.old.entries.items)
         listing.old.entries.items listing.new)
@@ -252,7 +252,7 @@ fn search(
     requires plan { IsPlan (system_data setting.now.system.now) setting.now.plan.now }
     requires keys { length listing.old.marks ≡ 16384 }
     requires none { listing.old.entries.items ≡ [] }
-    requires deep { depth ≤ 100 }
+    requires deep { depth < 2 ^ 32 }
     ensures { IfOk result (Comes (system_data setting.now.system.now) depth visited
         (GoesThrough (system_data setting.now.system.now) depth visited listing.new) listing.new) }
 {
@@ -293,7 +293,6 @@ pub fn find_loop(
     depth: u32,
     visited: u32,
 ) -> Result<LoopSearch, AllocError>
-    requires { depth ≤ 100 }
     ensures { IfOk result (IsAnswer (system_data system.now) depth visited) }
 {
     let plan = plan_of(alloc, system)?;

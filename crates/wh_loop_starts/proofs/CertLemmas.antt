@@ -229,7 +229,7 @@ put_fits d made s w p over o value = record {
 -- the certificate
 pub loop_certificate : (d : SystemData) → IsWellMadeSystem d → (s last : Tm) (steps : List taken.Step) (at : List ℕ) (puts : List Put) → IsSomeStart d.rules s → Fits s → 0 < length steps → Replays d.rules steps s last
     → All (IsPutOver d.symbols) puts → AllPairs IsBelow puts → All (IsPutFor s) puts → HoldsInstance s puts at last
-    → (depth : ℕ) → length steps ≤ depth → depth ≤ 100 → IsLoopCertificate d depth (no (raw_of (names_of_system d) s) steps at (map (line_of d) puts))
+    → (depth : ℕ) → length steps ≤ depth → depth < 2 ^ 32 → IsLoopCertificate d depth (no (raw_of (names_of_system d) s) steps at (map (line_of d) puts))
 loop_certificate d made s last steps at puts start fits some replays over rising for_variables holds depth few shallow = record {
   fits = record {
     parts = (term_here d made s r.typed.0 r.typed.1 start_low, fitting.0, places.0, All-map PutFits (line_of d) puts each_fits);

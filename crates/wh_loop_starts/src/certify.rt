@@ -1,6 +1,6 @@
 //! The certificate of a loop.
 
-ghost use Rattle.std.specs.Prelude.{◌≡◌, ◌<◌, ◌≤◌, ℕ, All, IfOk, length, map};
+ghost use Rattle.std.specs.Prelude.{◌≡◌, ◌<◌, ◌≤◌, ◌^◌, ℕ, All, IfOk, length, map};
 ghost use Rattle.wh_terms.specs.Erase.{tm};
 ghost use Rattle.wh_terms.specs.Tree.{Tm};
 ghost use Rattle.wh_terms.specs.Measures.{Fits};
@@ -60,7 +60,7 @@ pub fn certificate_of(
     requires some { 0 < length steps }
     requires leads { (last : Tm) × Replays (system_data system.now).rules steps (tm start.now) last
         × IsInstanceIn (system_data system.now).symbols (tm start.now) last instance }
-    ensures { (depth : ℕ) → length steps ≤ depth → depth ≤ 100
+    ensures { (depth : ℕ) → length steps ≤ depth → depth < 2 ^ 32
         → IfOk result (λ c. IsLoopCertificate (system_data system.now) depth (said_no c)) }
 {
     system.is_well_made();

@@ -40,7 +40,6 @@ pub fn prove(
     options: &Options,
 ) -> Result<Answer, AllocError>
     requires pairs { HasPairs (system_data system.now) (pairs_data pairs.now) }
-    requires depth { options.now.depth ≤ 100 }
     ensures { IfOk result (IsAnswer (system_data system.now) (pairs_data pairs.now) options.now) }
 {
     let first = options.visited.min(FIRST_VISITED);
@@ -58,7 +57,6 @@ fn search(
     options: &Options,
 ) -> Result<Answer, AllocError>
     requires pairs { HasPairs (system_data system.now) (pairs_data pairs.now) }
-    requires depth { options.now.depth ≤ 100 }
     ensures { IfOk result (IsAnswer (system_data system.now) (pairs_data pairs.now) options.now) }
 {
     let found = match find_ranks(alloc, system) {
@@ -116,7 +114,6 @@ fn disprove(
     cause: Cause,
 ) -> Result<Answer, AllocError>
     requires no_proof { HasNoProof (system_data system.now) (pairs_data pairs.now) options.now.tries cause }
-    requires depth { options.now.depth ≤ 100 }
     ensures { IfOk result (IsAnswer (system_data system.now) (pairs_data pairs.now) options.now) }
 {
     match find_loop(alloc, system, options.depth, options.visited)? {

@@ -47,7 +47,6 @@ pub fn refute(
     options: &Options,
 ) -> Result<Verdict, AllocError>
     requires pairs { HasPairs (system_data system.now) (pairs_data pairs.now) }
-    requires depth { options.now.depth ≤ 100 }
     requires tries { options.now.tries ≤ 1000000 }
     ensures { IfOk result (IsVerdict (system_data system.now) (pairs_data pairs.now) options.now) }
 {

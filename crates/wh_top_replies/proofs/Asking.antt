@@ -1,13 +1,6 @@
 -- What the words that were read ask for is within its limits.
 use Rattle.std.proofs.Common.{ℕ, ◌≤◌, inl, inr, List, arith}
-use Rattle.wh_top_words.specs.Words.{Bounds, Item, SetTo, tries, depth, prove, gen, refute, Asks}
-
-set_depth : (items : List Item) (n : ℕ) → SetTo items depth n → n ≤ 100
-set_depth items n (inl (none, is)) = omega (arith, is)
-set_depth items n (inr (one, low, high)) = high
-
-pub depth_asked : (words : List (List ℕ)) (file : List ℕ) (b : Bounds) → Asks words (prove file b) → b.depth ≤ 100
-depth_asked words file b (more, items, split, say, one, bounds) = set_depth items b.depth bounds.depth
+use Rattle.wh_top_words.specs.Words.{Item, SetTo, tries, gen, refute, Asks}
 
 set_tries : (items : List Item) (n : ℕ) → SetTo items tries n → n ≤ 1000000
 set_tries items n (inl (none, is)) = omega (arith, is)

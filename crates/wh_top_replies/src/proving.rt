@@ -30,7 +30,6 @@ pub fn prove_file<S: Shelf>(
     file: &str,
     options: &Options,
 ) -> Result<Bytes, Or<Report>>
-    requires { options.now.depth ≤ 100 }
     ensures found { MatchOr result (λ text. ToldSystem (S.held shelf.old file.now) (λ d ps. IsFoundText d ps options.now text))
         (StandsForSearch (outside (S.held shelf.old) (S.faults shelf.old) (S.faults shelf.new)) file.now options.now) }
     ensures begins { IfOk result (λ text. BeginsWith (codes "YES ") text ⊎ BeginsWith (codes "NO 1") text) }
@@ -44,7 +43,6 @@ pub fn prove_file<S: Shelf>(
 // The text of what the search finds, or why it finds nothing.
 fn found_text(alloc: Global, problem: &Problem, options: &Options) -> Result<Bytes, Or<Report>>
     requires pairs { HasPairs (system_data problem.now.system) (pairs_data problem.now.pairs) }
-    requires depth { options.now.depth ≤ 100 }
     ensures found { MatchOr result (IsFoundText (system_data problem.now.system) (pairs_data problem.now.pairs) options.now)
         (IsNotFound (system_data problem.now.system) (pairs_data problem.now.pairs) options.now) }
     ensures begins { IfOk result (λ text. BeginsWith (codes "YES ") text ⊎ BeginsWith (codes "NO 1") text) }

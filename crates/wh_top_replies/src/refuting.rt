@@ -28,7 +28,6 @@ pub fn refute_file<S: Shelf>(
     file: &str,
     options: &Options,
 ) -> Result<Bytes, Or<Report>>
-    requires depth { options.now.depth ≤ 100 }
     requires tries { options.now.tries ≤ 1000000 }
     ensures refuted { MatchOr result (λ text. ToldSystem (S.held shelf.old file.now) (λ d ps. TellsRefuted d ps options.now text))
         (StandsBySystem (outside (S.held shelf.old) (S.faults shelf.old) (S.faults shelf.new)) file.now) }
@@ -42,7 +41,6 @@ pub fn refute_file<S: Shelf>(
 // The same of the system.
 fn refuted_in(alloc: Global, problem: &Problem, options: &Options) -> Result<Bytes, AllocError>
     requires pairs { HasPairs (system_data problem.now.system) (pairs_data problem.now.pairs) }
-    requires depth { options.now.depth ≤ 100 }
     requires tries { options.now.tries ≤ 1000000 }
     ensures { IfOk result (TellsRefuted (system_data problem.now.system) (pairs_data problem.now.pairs) options.now) }
 {
