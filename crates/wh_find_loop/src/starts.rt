@@ -17,7 +17,7 @@ pub struct Plan {
     pub table: Table,
 }
 
-/// Those of a system.
+/// The starts of a system's rules, and the rules of each of its symbols.
 pub fn plan_of(alloc: Global, system: &System) -> Result<Plan, AllocError>
     ensures { IfOk result (IsPlan (system_data system.now)) }
 {

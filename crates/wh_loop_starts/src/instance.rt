@@ -100,7 +100,7 @@ fn instance_from(
     }
 }
 
-// The same of the places below that one alone.
+// The first instance at a place below the one with these steps, if there is one.
 #[cycle(places)]
 fn instance_below(
     alloc: Global,
@@ -128,7 +128,7 @@ fn instance_below(
     }
 }
 
-// The same one step further, where `child` stands.
+// The first instance one step further, where `child` stands, or below it.
 #[cycle(places)]
 fn instance_in(
     alloc: Global,

@@ -83,7 +83,7 @@ fn spot_at(
     }
 }
 
-// The same, where the number is known.
+// Where the bits of the symbol stand whose number among all scopes is known.
 fn spot_with(
     scopes: &[Vec<SimpleType>],
     first_bits: &[u32],

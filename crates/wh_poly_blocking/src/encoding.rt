@@ -24,7 +24,7 @@ pub struct Encoding<'a> {
     pub numbers: Vec<Vec<usize>>,
 }
 
-/// That of a task. Fails also where there are more bits than a solver has variables.
+/// The encoding of the guesses for a task. It fails also where there are more bits than a solver has variables.
 pub fn encoding_of<'a>(
     alloc: Global,
     task: &Task<'a>,

@@ -21,7 +21,8 @@ pub struct Hints {
 }
 
 impl Hints {
-    /// Those of conditions in which what has these numbers is used, where each number has so many monomials.
+    /// The hints for conditions: `numbers` has, for each condition, the numbers of the interpretations that it uses, and
+    /// `sizes` how many monomials each interpretation may have.
     pub fn new(
         alloc: Global,
         numbers: &[Vec<usize>],

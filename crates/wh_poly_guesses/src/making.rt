@@ -250,7 +250,7 @@ fn sizes_of_symbols(alloc: Global, kinds: &[SimpleType]) -> Result<Vec<usize>, A
     Ok(sizes)
 }
 
-// The same of each of the marked symbols joins.
+// The number of monomials that may be tried for each marked symbol joins the sizes.
 fn add_sizes_of_marks(
     alloc: Global,
     system: &System,

@@ -46,7 +46,7 @@ pub fn node_of_guess<'a>(
     weighed(alloc, task, None, &readings)
 }
 
-/// The same where the node lists these rules, which are closed for the set; with no list all rules are to be covered.
+/// The node of a guess that lists these rules, which are closed for the set; with no list it covers all rules.
 pub fn listing_node_of_guess<'a>(
     alloc: Global,
     task: &Task<'a>,

@@ -28,7 +28,7 @@ pub fn add_symbols(term: &Term, symbols: &mut Vec<u32>) -> Result<(), AllocError
     }
 }
 
-/// The same of all terms of a list.
+/// The symbols that occur in some term of the list join the list of symbols, each once.
 #[cycle(symbols)]
 pub fn add_symbols_of_all(terms: &Terms, symbols: &mut Vec<u32>) -> Result<(), AllocError>
     ensures { OnOk result (Joins (λ n. SomeHasSymbol n (trees terms.now)) symbols.old.items symbols.new.items) }

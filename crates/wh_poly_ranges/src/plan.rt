@@ -31,7 +31,8 @@ pub struct Work {
 }
 
 impl Plan {
-    /// That of a task, whose marked symbols are given, with so many numbers of symbols and marked symbols.
+    /// Plans the search for the task with these marked symbols: which rules and pairs each interpretation occurs in.
+    /// `count` is how many symbols and marked symbols have an interpretation.
     pub fn new<'a>(
         alloc: Global,
         task: &Task<'a>,

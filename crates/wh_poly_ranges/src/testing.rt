@@ -126,7 +126,7 @@ fn is_rule_out<'a, 'b>(
     is_refuted(alloc, &left, &right, variables, false)
 }
 
-// The same of the pair with the place in the set.
+// Whether the pair at this place in the set fails under all coefficients in the ranges.
 fn is_pair_out<'a, 'b>(
     alloc: Global,
     task: &Task<'a>,

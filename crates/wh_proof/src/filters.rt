@@ -156,7 +156,7 @@ pub fn lines_of_mark_filters(
     Ok(lines)
 }
 
-// The same filter.
+// A filter of its own that is equal to this one.
 fn copy_filter(alloc: Global, filter: &Filter) -> Result<Filter, AllocError>
     ensures { IfOk result (λ made. written_filter made ≡ written_filter filter.now) }
 {
@@ -172,7 +172,7 @@ fn copy_filter(alloc: Global, filter: &Filter) -> Result<Filter, AllocError>
     }
 }
 
-// The same numbers as a list of its own.
+// A list of its own with these numbers.
 fn copied(alloc: Global, list: &[u32]) -> Result<Numbers, AllocError>
     ensures { IfOk result (λ numbers. numbers ≡ list.now) }
 {

@@ -88,7 +88,7 @@ fn put_inferences(
     put_under(alloc, text, &task, &filters, node, depth)
 }
 
-// The same under the filters that the lines of the node say.
+// Appends what the sides are behind the filters that the lines of the node say, and how they compare.
 fn put_under<'a>(
     alloc: Global,
     text: &mut Text,

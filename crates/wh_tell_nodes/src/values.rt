@@ -108,7 +108,7 @@ fn put_values(
     put_under(alloc, text, &task, &readings, node, depth)
 }
 
-// The same under the readings that the lines of the node say.
+// Appends what the sides are worth under the polynomials that the lines of the node say, and how they compare.
 fn put_under<'a, 'b>(
     alloc: Global,
     text: &mut Text,

@@ -64,7 +64,7 @@ fn improve(system: &System, pairs: &[&Pair], chosen: &mut [u32]) {
     }
 }
 
-// The same for one symbol, whose rules have so many arguments.
+// Chooses the argument of one symbol anew, of the `need` arguments that its rules have, where that scores more.
 fn improve_at(pairs: &[&Pair], chosen: &mut [u32], symbol: usize, need: u32) {
     for place in 0..need {
         let most = score(pairs, chosen);

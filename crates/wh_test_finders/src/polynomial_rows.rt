@@ -77,7 +77,7 @@ fn is_worth<'a>(
     is_that(worth, expected)
 }
 
-// The same where the symbols are read as the table says.
+// Whether a side is worth that where the symbols are read as the table says.
 fn is_worth_under(
     alloc: Global,
     system: &System,

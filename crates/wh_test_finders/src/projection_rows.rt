@@ -58,7 +58,7 @@ fn told_of_choice(
     Ok(told(check_numbered(system, table, sides, &set, &args, &[0])))
 }
 
-/// The same over the pairs of the system, which are numbered first.
+/// Checks the choice over the pairs of the system, which are numbered first, and tells what the check says.
 fn told_of_pairs(
     alloc: Global,
     system: &System,
@@ -72,7 +72,7 @@ fn told_of_pairs(
     told_of_choice(alloc, system, &table, sides.as_slice(), choice)
 }
 
-/// The same over the system of `map`, for a choice of an argument for `map`.
+/// Checks a choice of an argument of `map` over the system of `map`, and tells what the check says.
 fn told_of_map(alloc: Global, argument: u32) -> Result<Told, AllocError> {
     let system = system_of(alloc, MAP)?;
     let list = pairs_of(alloc, &system)?;

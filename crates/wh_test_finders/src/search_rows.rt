@@ -54,7 +54,7 @@ fn told_of_pairs(alloc: Global, system: &System, list: &PairList) -> Result<Told
     }
 }
 
-/// The same over a text.
+/// Tells what the search finds for the system that a text spells.
 fn told_of(alloc: Global, text: &[u8]) -> Result<Told, AllocError> {
     let system = system_of(alloc, text)?;
     let list = pairs_of(alloc, &system)?;

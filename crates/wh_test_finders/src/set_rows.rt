@@ -50,7 +50,7 @@ fn answer(alloc: Global, text: &[u8], question: Question) -> Result<String, Allo
     answer_from(alloc, &outcome, question)
 }
 
-/// The same about the system that is read.
+/// The answer to a question about the system that was read, or that none was.
 fn answer_from(
     alloc: Global,
     outcome: &Result<System, Or<Refused>>,
@@ -62,7 +62,7 @@ fn answer_from(
     }
 }
 
-/// The same about the system.
+/// The answer to a question about the system and its pairs.
 fn answer_about(alloc: Global, system: &System, question: Question) -> Result<String, AllocError> {
     let list = pairs_of(alloc, system)?;
     answer_of(alloc, system, &list, question)
@@ -158,7 +158,7 @@ fn told(alloc: Global, found: Search<Node>) -> Result<String, AllocError> {
     }
 }
 
-/// The same of a search for path orders.
+/// Tells what a search for path orders found.
 fn told_of_order(alloc: Global, found: Search<OrderNode>) -> Result<String, AllocError> {
     match found {
         Search::Found(node) => {

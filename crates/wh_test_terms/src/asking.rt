@@ -44,7 +44,7 @@ fn add_answer_about(
     }
 }
 
-/// The same about the system that is read.
+/// Appends the answer to a question about the system that was read, or that none was.
 fn add_answer_from(
     alloc: Global,
     out: &mut Bytes,
@@ -57,7 +57,7 @@ fn add_answer_from(
     }
 }
 
-/// The same about the system of a text.
+/// Appends the answer to a question about the system that a text spells.
 fn add_answer_in(
     alloc: Global,
     out: &mut Bytes,

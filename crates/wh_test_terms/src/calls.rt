@@ -49,7 +49,7 @@ pub fn add_called(
     add_called_from(alloc, out, call, system, &outcome)
 }
 
-/// The same by the certificate that is read, which is one of non-termination.
+/// Appends what the calls give for the certificate that was read, which is one of non-termination.
 fn add_called_from(
     alloc: Global,
     out: &mut Bytes,
@@ -63,7 +63,7 @@ fn add_called_from(
     }
 }
 
-/// The same by what that has.
+/// Appends what the calls give for the term, the steps and the rest of the certificate.
 fn add_called_by(
     alloc: Global,
     out: &mut Bytes,
@@ -75,7 +75,7 @@ fn add_called_by(
     add_called_on(alloc, out, call, system, no, &term)
 }
 
-/// The same by the certificate's term.
+/// Appends what the calls give for the term of the certificate.
 fn add_called_on(
     alloc: Global,
     out: &mut Bytes,

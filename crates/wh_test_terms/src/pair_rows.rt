@@ -14,11 +14,11 @@ use wh_types::Or;
 const FREE: &[u8] =
     b"sort o;fun g:o->o;fun p:(o->o->o)->o->o;rule {X:o} g X => X;rule {F:[o,o]o,X:o} p (\\x:o.\\y:o.F[x,y]) X => g X;";
 
-/// The same call below the first argument of a meta-variable and the second one of another occurrence.
+/// A call stands below the first argument of one occurrence of a meta-variable and the second argument of another.
 const BOTH: &[u8] =
     b"sort o;fun g:o->o;fun p:(o->o->o)->o->o;rule {X:o} g X => X;rule {F:[o,o]o,X:o} p (\\x:o.\\y:o.F[x,y]) X => F[F[X,g X],X];";
 
-/// The same call below the second argument alone.
+/// A call stands below the second argument of a meta-variable alone.
 const SECOND: &[u8] =
     b"sort o;fun g:o->o;fun p:(o->o->o)->o->o;rule {X:o} g X => X;rule {F:[o,o]o,X:o} p (\\x:o.\\y:o.F[x,y]) X => F[X,g X];";
 

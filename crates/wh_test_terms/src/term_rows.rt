@@ -57,7 +57,7 @@ fn add_type_in(
     }
 }
 
-/// The same of the term of a text.
+/// Appends the type of the term that a text spells.
 pub fn add_type_of(
     alloc: Global,
     out: &mut Bytes,

@@ -38,7 +38,7 @@ fn parts_of(whole: &SimpleType, other: &SimpleType) -> (bool, u32, u32, bool, bo
     )
 }
 
-/// The same of a type and its copy.
+/// The parts of a type, and whether its copy is equal to it.
 fn parts_and_copy(
     alloc: Global,
     whole: &SimpleType,
@@ -49,7 +49,7 @@ fn parts_and_copy(
     Ok(parts_of(whole, &same))
 }
 
-/// The same of that type.
+/// The parts of the type that the rows are about.
 fn parts(alloc: Global) -> Result<(bool, u32, u32, bool, bool), AllocError> {
     let whole = function_type(alloc)?;
     parts_and_copy(alloc, &whole)

@@ -149,7 +149,7 @@ fn meta(alloc: Global) -> Result<RawTerm, AllocError> {
     Ok(RawTerm::Meta(Name::new(alloc, b"Z")?, args, 0))
 }
 
-/// The same in a box.
+/// A meta-variable in a box.
 fn boxed_meta(alloc: Global) -> Result<Box<RawTerm>, AllocError> {
     let meta = meta(alloc)?;
     Ok(Box::new(alloc, meta)?)
@@ -197,7 +197,7 @@ fn add_puts_of(
     }
 }
 
-/// The same of the certificate of a text.
+/// Appends what the certificate that a text spells puts for variables.
 fn add_puts(alloc: Global, out: &mut Bytes, text: &[u8]) -> Result<(), AllocError> {
     if text.len() > 8_388_608 {
         return Err(AllocError);

@@ -54,7 +54,7 @@ pub fn generated(alloc: Global, n: u32) -> Result<Bytes, Or<Report>>
     answered(alloc, n, &system)
 }
 
-// The same of the system.
+// Finds the pairs of the generated system, and tells what the search for a proof comes to.
 fn answered(alloc: Global, n: u32, system: &System) -> Result<Bytes, Or<Report>>
     requires { system_data system.now ≡ gen_data n }
     ensures { MatchOr result (ShowsGenerated n Answered) (StandsForGenerated n) }
@@ -63,7 +63,7 @@ fn answered(alloc: Global, n: u32, system: &System) -> Result<Bytes, Or<Report>>
     Ok(shown(alloc, n, system, &pairs)?)
 }
 
-// The same of the system and its pairs.
+// Tells how many rules and pairs the generated system has, and what the search for a proof comes to.
 fn shown(alloc: Global, n: u32, system: &System, pairs: &PairList) -> Result<Bytes, AllocError>
     requires system { system_data system.now ≡ gen_data n }
     requires pairs { HasPairs (system_data system.now) (pairs_data pairs.now) }

@@ -108,7 +108,7 @@ fn sort_names(alloc: Global, system: &System, sorts: &[u32]) -> Result<Names, Al
     Ok(names)
 }
 
-// The same numbers.
+// A list of its own with these numbers.
 fn copied(alloc: Global, numbers: &[u32]) -> Result<Numbers, AllocError>
     ensures { IfOk result (λ list. list ≡ numbers.now) }
 {

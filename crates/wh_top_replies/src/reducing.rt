@@ -34,7 +34,7 @@ pub fn reduce_file<S: Shelf>(
     reduced_in(alloc, &system, term.as_bytes(), steps)
 }
 
-// The same of the system.
+// Tells how the term that the bytes spell reduces by the rules of the system.
 fn reduced_in(alloc: Global, system: &System, term: &[u8], steps: u32) -> Result<Bytes, Or<Report>>
     ensures { MatchOr result (TellsReduced (system_data system.now) term.now steps) (IsNotReduced (system_data system.now) term.now) }
 {

@@ -122,7 +122,7 @@ fn told(alloc: Global, report: Report) -> Result<Reply, AllocError>
     reply_of(alloc, &report)
 }
 
-// The same of an answer that stays.
+// The reply that tells an answer which is kept.
 fn reply_of(alloc: Global, report: &Report) -> Result<Reply, AllocError>
     ensures status { IfOk result (λ reply. reply.status ≡ status_of report.now) }
     ensures text { IfOk result (λ reply. reply.text ≡ report_text report.now) }
