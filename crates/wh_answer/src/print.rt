@@ -223,7 +223,7 @@ fn line_words(alloc: Global, row: &Row) -> Result<Bytes, AllocError>
         Row::BadInferencePair { node, pair, entry } => {
             of_pair(alloc, *node, b"bad-inference", *pair, *entry)
         }
-        _ => Bytes::new(alloc),
+        _ => Ok(Bytes::new(alloc)),
     }
 }
 

@@ -87,7 +87,7 @@ pub enum PolyStep {
 fn zero(alloc: Global) -> Result<Poly, AllocError>
     ensures { IfOk result (λ p. poly p ≡ zero_poly) }
 {
-    Poly::new(alloc)
+    Ok(Poly::new(alloc))
 }
 
 /// A product without factors.
@@ -95,7 +95,7 @@ fn zero(alloc: Global) -> Result<Poly, AllocError>
 fn no_atoms(alloc: Global) -> Result<Atoms, AllocError>
     ensures { IfOk result (λ us. atoms us ≡ no_factors) }
 {
-    Atoms::new(alloc)
+    Ok(Atoms::new(alloc))
 }
 
 /// No arguments.
@@ -103,7 +103,7 @@ fn no_atoms(alloc: Global) -> Result<Atoms, AllocError>
 fn no_polys(alloc: Global) -> Result<Polys, AllocError>
     ensures { IfOk result (λ ps. polys ps ≡ no_arguments) }
 {
-    Polys::new(alloc)
+    Ok(Polys::new(alloc))
 }
 
 /// A monomial joins at the end.

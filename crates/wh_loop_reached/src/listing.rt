@@ -113,7 +113,7 @@ pub fn steps_to(alloc: Global, entries: &[Entry], entry: &Entry) -> Result<Steps
         → LeadTo rules entry.now steps) }
 {
     match &entry.origin {
-        None => Steps::new(alloc),
+        None => Ok(Steps::new(alloc)),
         Some(origin) => {
             let mut steps = steps_to(alloc, entries, &entries[origin.parent])?;
             steps.push(copy_step(alloc, &origin.step)?)?;

@@ -138,7 +138,7 @@ fn sum_or_zero(alloc: Global, sum: &Poly, asked: bool) -> Result<Poly, AllocErro
     if asked {
         copy(alloc, sum)
     } else {
-        Poly::new(alloc)
+        Ok(Poly::new(alloc))
     }
 }
 

@@ -149,7 +149,7 @@ fn replaced(alloc: Global, bytes: &[u8], part: &str, to: &[u8]) -> Result<Bytes,
     let whole = str::from_utf8(bytes).or(Err(AllocError))?;
     match whole.split_once(part) {
         Some((front, back)) => joined(alloc, front.as_bytes(), to, back.as_bytes()),
-        None => Bytes::new(alloc),
+        None => Ok(Bytes::new(alloc)),
     }
 }
 

@@ -30,7 +30,7 @@ loop-wire-preserved c =
     let wide : length sum ≡ length b + 1 = c.in_ok-sum.ensures.width in
     let low : 0 < length sum = omega (arith, wide) in
     let is : c.push.new.self ≡ made ++ get_or sum 0 none ∷ [] = search rules in
-    let tail : c.new-rest-2.result ≡ drop 1 sum = search rules in
+    let tail : c.in_ok-rest.rest ≡ drop 1 sum = search rules in
     record {
       grows = grows_then (i * each) each ((i + 1) * each) c.args.circuit.now c.loop-wire.circuit c.with_row.new.circuit before.grows c.with_row.ensures.grows (omega arith);
       own = subst (AreWires new) (sym is) (below_push (length new) made (get_or sum 0 none) (below_more (length old) (length new) made joins.more before.own)
@@ -38,7 +38,7 @@ loop-wire-preserved c =
       own_rest = subst (AreWires new) (sym tail) (below_tail (length new) sum means.own);
       width = omega (arith, ap length is, length-append made (get_or sum 0 none ∷ []), before.width);
       narrow = omega (arith, ap length tail, length-drop 1 sum, wide);
-      same = λ v g. ap (λ ls. number_of v ls + 2 ^ (i + 1) * (number_of v c.new-rest-2.result + number_of v (drop (i + 1) a) * number_of v b)) is
+      same = λ v g. ap (λ ls. number_of v ls + 2 ^ (i + 1) * (number_of v c.in_ok-rest.rest + number_of v (drop (i + 1) a) * number_of v b)) is
           ∙ ap (λ ls. number_of v (made ++ get_or sum 0 none ∷ []) + 2 ^ (i + 1) * (number_of v ls + number_of v (drop (i + 1) a) * number_of v b)) tail
           ∙ times_more v a b made c.loop-wire.rest sum i none before.width within low
           (means.is v g ∙ ap (λ ls. number_of v ls + bit (literal_true v (get_or a i none)) * number_of v b) c.as_slice.ensures) ∙ before.same v (agrees_before each old new v joins g);

@@ -42,11 +42,11 @@ body_of-returns-in-None-3 t c =
 
 pub body_of-returns-in-Some-2 : goal.body_of-returns-in-Some-2
 body_of-returns-in-Some-2 t c =
-    let there = rw c.in-Some-2.is at c.new-bodies-in-Meta.ensures in
+    let there = rw c.in-Some-2.is at c.in_ok-bodies-in-Meta.ensures in
     ap (placed (tms c.args.seat.now.args.now) c.args.seat.now.depth c.args.inner) (tm_meta c.in-Meta.meta c.in-Some-2.bodies)
     ∙ ap (meta c.in-Meta.meta) there ∙ sym (tm_of_meta c.args.term.now c.in-Meta.meta c.in-Meta.items c.in-Meta.is)
 
 pub body_of-returns-in-None-2 : goal.body_of-returns-in-None-2
 body_of-returns-in-None-2 t c =
     no_meta c.args.seat.now.depth c.args.inner (tms c.args.seat.now.args.now) c.args.term.now c.in-Meta.meta c.in-Meta.items c.requires c.in-Meta.is
-    (rw c.in-None-2.is at c.new-bodies-in-Meta.ensures)
+    (rw c.in-None-2.is at c.in_ok-bodies-in-Meta.ensures)

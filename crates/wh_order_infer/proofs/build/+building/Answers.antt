@@ -36,10 +36,10 @@ pub build_by-returns-in_ok-parts-in-Some-clause-found : goal.build_by-returns-in
 build_by-returns-in_ok-parts-in-Some-clause-found t c =
     let D = filtering_data c.args.known.now.filters.now in
     stable_inference D c.args.room c.args.goal.now c.made_with.result (λ refuted. c.requires (λ best. refuted
-    (built_with D c.args.room (c.args.room - 1) c.args.goal.now c.args.choice c.in-Some.goals c.as_slice.result.now c.new-parts-in-Some.result c.made_with.result
+    (built_with D c.args.room (c.args.room - 1) c.args.goal.now c.args.choice c.in-Some.goals c.as_slice.result.now c.in_ok-parts-in-Some.parts c.made_with.result
     c.as_slice.ensures.value (omega arith) best
     (subst (λ (r : Option (Vec Goal)). AreGoalsBy D c.args.goal.now (letter c.args.choice.letter) c.args.choice.place r) c.in-Some.is c.in_ok-goals.ensures)
-    c.new-parts-in-Some.ensures.found c.made_with.ensures)))
+    c.in_ok-parts-in-Some.ensures.found c.made_with.ensures)))
 
 pub build_by-returns-in-None-clause-found : goal.build_by-returns-in-None-clause-found
 build_by-returns-in-None-clause-found t c =

@@ -17,7 +17,7 @@ copy-returns t c = poly_is c.loop-item.copies ∙ c.loop-item.invariant ∙ ap s
 
 pub copy_factors-loop-item-preserved : goal.copy_factors-loop-item-preserved
 copy_factors-loop-item-preserved t c = product_push (factors c.loop-item.copies) (factors c.push.new.self) c.as_slice-item-items.result.now c.loop-item.item-index _ c.item-item.result
-    c.loop-item.invariant c.in_ok-push.ensures.ok (ap (λ r. r.head) (out-roll-Atom _)) (ap (λ r. polys r.args) (out-roll-Atom _) ∙ c.new-args.ensures) c.loop-item-test.true c.item-item.is
+    c.loop-item.invariant c.in_ok-push.ensures.ok (ap (λ r. r.head) (out-roll-Atom _)) (ap (λ r. polys r.args) (out-roll-Atom _) ∙ c.in_ok-args.ensures) c.loop-item-test.true c.item-item.is
 
 pub copy_factors-returns : goal.copy_factors-returns
 copy_factors-returns t c = atoms_is c.loop-item.copies ∙ c.loop-item.invariant ∙ ap product_of (take_all c.loop-item.item-index c.as_slice-item-items.result.now c.loop-item-test.false ∙ c.as_slice-item-items.ensures) ∙ sym (atoms_is c.args.us.now)

@@ -14,4 +14,4 @@ returns-then-is_empty c =
     ∙ sym (no_arguments_left (out-Atom c.args.item.now).args c.as_slice.result.now c.as_slice.ensures none))
 
 pub returns : goal.returns
-returns c = product_copy (factors c.args.us.now) (factors c.push-2.new.self) _ c.args.item.now c.in_ok-push-2.ensures.ok (ap (λ r. r.head) (out-roll-Atom _)) (ap (λ r. polys r.args) (out-roll-Atom _) ∙ c.new-args-2.ensures)
+returns c = product_copy (factors c.args.us.now) (factors c.push-2.new.self) _ c.args.item.now c.in_ok-push-2.ensures.ok (ap (λ r. r.head) (out-roll-Atom _)) (ap (λ r. polys r.args) (out-roll-Atom _) ∙ c.in_ok-args.ensures)

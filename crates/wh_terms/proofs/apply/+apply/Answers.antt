@@ -15,7 +15,7 @@ pub value_under-returns-in-Some : goal.value_under-returns-in-Some
 value_under-returns-in-Some t c =
     subst (λ v. IfOk c.insert.result (λ r. tm r ≡ v))
     (valued_meta c.args.depth c.args.by.now c.args.term.now c.in-Meta.meta c.in-Meta.items (tms c.as_slice.result.now) c.in-Some.body.now c.in-Meta.is
-    (ap tms c.as_slice.ensures ∙ c.new-values-in-Meta.ensures) c.in-Some.ensures.1)
+    (ap tms c.as_slice.ensures ∙ c.in_ok-values-in-Meta.ensures) c.in-Some.ensures.1)
     c.insert.ensures
 
 pub values_under-value_under-requires : goal.values_under-value_under-requires
