@@ -9,7 +9,7 @@ use wh_terms::Path;
 use wh_text::Name;
 use wh_types::{Blocks, Numbers};
 
-/// The same numbers.
+/// Copies the numbers.
 pub fn copy_numbers(alloc: Global, numbers: &[u32]) -> Result<Numbers, AllocError>
     ensures { IfOk result (λ copies. copies ≡ numbers.now) }
 {
@@ -32,7 +32,7 @@ pub fn numbers_below(alloc: Global, end: u32) -> Result<Numbers, AllocError>
     Ok(numbers)
 }
 
-/// The same blocks.
+/// Copies the blocks.
 pub fn copy_blocks(alloc: Global, blocks: &[Numbers]) -> Result<Blocks, AllocError>
     ensures { IfOk result (λ copies. copies ≡ blocks.now) }
 {
@@ -43,7 +43,7 @@ pub fn copy_blocks(alloc: Global, blocks: &[Numbers]) -> Result<Blocks, AllocErr
     Ok(copies)
 }
 
-/// The same path.
+/// Copies a path.
 pub fn copy_path(alloc: Global, path: &[u8]) -> Result<Path, AllocError>
     requires { IsPath path.now }
     ensures { IfOk result (λ copy. copy ≡ path.now) }
@@ -55,7 +55,7 @@ pub fn copy_path(alloc: Global, path: &[u8]) -> Result<Path, AllocError>
     Ok(copy)
 }
 
-/// The same name.
+/// Copies a name.
 pub fn copy_name(alloc: Global, name: &Name) -> Result<Name, AllocError>
     ensures { IfOk result (λ copy. copy ≡ name.now) }
 {

@@ -9,7 +9,7 @@ use std::alloc::{AllocError, Global};
 use wh_cert::{NoCertificate, Put, Puts, Steps};
 use wh_terms::Step;
 
-/// The same certificate.
+/// Copies the certificate of a loop.
 pub fn copy_loop(alloc: Global, certificate: &NoCertificate) -> Result<NoCertificate, AllocError>
     ensures { IfOk result (λ copy. said_no copy ≡ said_no certificate.now) }
 {
@@ -25,7 +25,7 @@ pub fn copy_loop(alloc: Global, certificate: &NoCertificate) -> Result<NoCertifi
     })
 }
 
-/// The same steps.
+/// Copies the steps.
 fn copy_steps(alloc: Global, steps: &[Step]) -> Result<Steps, AllocError>
     ensures { IfOk result (λ copies. copies ≡ steps.now) }
 {

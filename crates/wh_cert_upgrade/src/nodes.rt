@@ -14,7 +14,7 @@ use wh_hopoly::{Covers, Move, Moves};
 use wh_poly::copy as copy_polynomial;
 use wh_types::Numbers;
 
-/// The same nodes in the same order.
+/// Copies the nodes, in their order.
 #[tactic(auto, using(crate::proofs::Copies::nodes_join, crate::proofs::Copies::nodes_end))]
 pub fn copy_nodes(alloc: Global, nodes: &[Node]) -> Result<Nodes, AllocError>
     ensures { IfOk result (λ copies. map said_node copies ≡ map said_node nodes.now) }
@@ -26,7 +26,7 @@ pub fn copy_nodes(alloc: Global, nodes: &[Node]) -> Result<Nodes, AllocError>
     Ok(copies)
 }
 
-/// The same node.
+/// Copies a node.
 pub fn copy_node(alloc: Global, node: &Node) -> Result<Node, AllocError>
     ensures { IfOk result (λ copy. said_node copy ≡ said_node node.now) }
 {
@@ -48,7 +48,7 @@ pub fn copy_node(alloc: Global, node: &Node) -> Result<Node, AllocError>
     }
 }
 
-/// The same node of interpretations, with these rules as those that are to be covered.
+/// Copies a node of interpretations, with `usable` as the rules that are to be covered.
 pub fn copy_poly(
     alloc: Global,
     node: &PolyNode,
@@ -71,7 +71,7 @@ pub fn copy_poly(
     })
 }
 
-/// The same list of rules, or none.
+/// Copies the list of rules, where there is one.
 fn copy_usable(alloc: Global, usable: &Option<Numbers>) -> Result<Option<Numbers>, AllocError>
     ensures { IfOk result (λ copy. copy ≡ usable.now) }
 {
@@ -81,7 +81,7 @@ fn copy_usable(alloc: Global, usable: &Option<Numbers>) -> Result<Option<Numbers
     }
 }
 
-/// The same node of a path order.
+/// Copies a node of a path order.
 fn copy_order(alloc: Global, node: &OrderNode) -> Result<OrderNode, AllocError>
     ensures { IfOk result (λ copy. said_order copy ≡ said_order node.now) }
 {
@@ -99,7 +99,7 @@ fn copy_order(alloc: Global, node: &OrderNode) -> Result<OrderNode, AllocError>
     })
 }
 
-/// The same symbols with arguments.
+/// Copies which argument is chosen of each symbol.
 fn copy_args(alloc: Global, args: &[Arg]) -> Result<Args, AllocError>
     ensures { IfOk result (λ copies. copies ≡ args.now) }
 {
@@ -135,7 +135,7 @@ fn copy_interp(alloc: Global, item: &Interp) -> Result<Interp, AllocError>
     })
 }
 
-/// The same lists of moves.
+/// Copies the lists of moves.
 fn copy_covers(alloc: Global, items: &[Moves]) -> Result<Covers, AllocError>
     ensures { IfOk result (λ copies. copies ≡ items.now) }
 {
@@ -146,7 +146,7 @@ fn copy_covers(alloc: Global, items: &[Moves]) -> Result<Covers, AllocError>
     Ok(copies)
 }
 
-/// The same moves.
+/// Copies the moves of one line.
 fn copy_moves(alloc: Global, items: &[Move]) -> Result<Moves, AllocError>
     ensures { IfOk result (λ copies. copies ≡ items.now) }
 {
@@ -161,7 +161,7 @@ fn copy_moves(alloc: Global, items: &[Move]) -> Result<Moves, AllocError>
     Ok(copies)
 }
 
-/// The same symbols with filters.
+/// Copies the symbols with their filters.
 fn copy_filters(alloc: Global, items: &[NamedFilter]) -> Result<NamedFilters, AllocError>
     ensures { IfOk result (λ copies. copies ≡ items.now) }
 {
@@ -175,7 +175,7 @@ fn copy_filters(alloc: Global, items: &[NamedFilter]) -> Result<NamedFilters, Al
     Ok(copies)
 }
 
-/// The same filter.
+/// Copies a filter.
 fn copy_filter(alloc: Global, filter: &Filter) -> Result<Filter, AllocError>
     ensures { IfOk result (λ copy. copy ≡ filter.now) }
 {

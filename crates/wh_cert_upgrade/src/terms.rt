@@ -37,7 +37,7 @@ fn copy_types(alloc: Global, kinds: &RawTypes) -> Result<RawTypes, AllocError>
     Ok(copies)
 }
 
-/// The same binder.
+/// Copies a binder.
 fn copy_binder(alloc: Global, binder: &RawBinder) -> Result<RawBinder, AllocError>
     ensures { IfOk result (λ copy. rbinder copy ≡ rbinder binder.now) }
 {

@@ -28,7 +28,7 @@ pub fn upgrade(
     }
 }
 
-/// The same of a YES certificate.
+/// The certificate of version 2 for a YES certificate of version 1.
 fn upgrade_yes(
     alloc: Global,
     yes: &YesCertificate,

@@ -75,7 +75,7 @@ fn add_pair<'a>(
     }
 }
 
-// Those of a pair with one symbol on both sides.
+// Adds the cases of a pair with one symbol on both sides.
 fn add_alike<'a>(
     cases: &mut Vec<Case>,
     sight: &Sight<'a>,
@@ -92,7 +92,7 @@ fn add_alike<'a>(
     Ok(())
 }
 
-// Those of a pair with two symbols.
+// Adds the cases of a pair with two symbols.
 fn add_apart<'a>(
     cases: &mut Vec<Case>,
     sight: &Sight<'a>,
@@ -111,7 +111,7 @@ fn add_apart<'a>(
     Ok(())
 }
 
-// Those of a left argument.
+// Adds the cases of one argument on the left.
 fn add_beside<'a>(
     cases: &mut Vec<Case>,
     sight: &Sight<'a>,

@@ -48,7 +48,7 @@ pub fn find_projection(
     find_projection_by(alloc, system, pairs, None, set, budget)
 }
 
-/// The same, by the numbers of the sides of all pairs where there are some: equal sides are then equal numbers.
+/// Finds a projection by the numbers of the sides of all pairs, where there are some: equal sides have equal numbers.
 pub fn find_projection_by(
     alloc: Global,
     system: &System,

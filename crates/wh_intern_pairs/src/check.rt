@@ -36,7 +36,7 @@ pub fn check_numbered(
     check_conditions(system, table, sides, set.as_slice(), args.as_slice(), drop)
 }
 
-// The same with the lists' elements.
+// Checks the conditions over the elements of the lists.
 fn check_conditions(
     system: &System,
     table: &Table,

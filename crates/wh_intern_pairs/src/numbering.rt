@@ -36,7 +36,7 @@ pub fn number_pairs(
     Ok(list)
 }
 
-// The same, pair by pair.
+// Numbers the sides of the pairs one after another.
 fn numbered(alloc: Global, pairs: &[Pair], table: &mut Table) -> Result<SidesList, AllocError>
     requires { (d : SystemData) × HasPairs d (map pair_data pairs.now) }
     ensures sides { IfOk result (λ sides. AreSides (trees table.new) sides (map pair_data pairs.now)) }
@@ -111,7 +111,7 @@ fn follows_its_rule(pairs: &[Pair], place: usize) -> bool
     pairs[place - 1].rule == pairs[place].rule
 }
 
-// The same numbers.
+// Copies the numbers.
 fn copied(alloc: Global, numbers: &[u32]) -> Result<Numbers, AllocError>
     ensures { IfOk result (λ copy. copy ≡ numbers.now) }
 {

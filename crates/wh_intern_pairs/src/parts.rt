@@ -66,7 +66,7 @@ pub fn nothing_asked() -> Asked
     }
 }
 
-/// The same as `has_part`, but that the last question is not gone into again.
+/// Answers as `has_part` does, and does not go into the last question again.
 pub fn has_part_as_asked(table: &Table, asked: &mut Asked, whole: u32, part: u32) -> bool
     requires whole { whole < length (trees table.now) }
     requires part { part < length (trees table.now) }

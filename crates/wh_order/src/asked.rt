@@ -42,7 +42,7 @@ pub fn goals_of<'a>(
     }
 }
 
-// The same where the left tree is to be at least the right one.
+// The goals of an inference by which the left tree is at least the right one.
 fn at_least_goals<'a>(
     alloc: Global,
     filters: &Filters,
@@ -80,7 +80,7 @@ fn is_same(letter: Letter) -> bool
     matches!(letter, Letter::Same)
 }
 
-// The same where the left tree is to be greater than the right one, which has to have its type.
+// The goals of an inference by which the left tree is greater than the right one, which has to have its type.
 fn typed_goals<'a>(
     alloc: Global,
     filters: &Filters,
@@ -101,7 +101,7 @@ fn typed_goals<'a>(
     if alike { Ok(Some(goals)) } else { Ok(None) }
 }
 
-// The same where both have one type.
+// The goals of an inference by which the left tree is greater than the right one, where both have one type.
 fn greater_goals<'a>(
     alloc: Global,
     filters: &Filters,

@@ -94,7 +94,7 @@ fn check_goal(
     }
 }
 
-// The same of one inference after another, each for its goal.
+// Checks one inference after another, each for its goal.
 #[cycle(checking)]
 fn check_goals(
     alloc: Global,

@@ -25,7 +25,7 @@ pub fn open_tree(
     open_under(alloc, body, number, kind, 0)
 }
 
-// The same of a tree that stands below `depth` binders more.
+// Opens a tree that stands below `depth` further binders.
 #[cycle(opening)]
 fn open_under(
     alloc: Global,
@@ -65,7 +65,7 @@ fn open_under(
     }
 }
 
-// The same of each tree of a list.
+// Opens each tree of a list.
 #[cycle(opening)]
 fn open_each(
     alloc: Global,

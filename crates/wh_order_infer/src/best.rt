@@ -44,7 +44,7 @@ fn has_one_entry(choice: Option<Choice>) -> bool
     }
 }
 
-// The same by one letter.
+// The least number of inferences for the goal if the first one has this letter.
 #[cycle(counting)]
 fn best_by(
     known: &mut Known<'_>,
@@ -67,7 +67,7 @@ fn best_by(
     Ok(found)
 }
 
-// The same by one letter at one place.
+// The least number of inferences for the goal if the first one has this letter and place.
 #[cycle(counting)]
 fn choice_at(
     known: &mut Known<'_>,

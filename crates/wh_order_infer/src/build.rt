@@ -29,7 +29,7 @@ pub fn build(
     }
 }
 
-// The same by the best choice.
+// Builds the inferences of a goal by the best choice for it.
 #[cycle(building)]
 fn build_by(
     known: &mut Known<'_>,

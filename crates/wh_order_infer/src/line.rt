@@ -31,7 +31,7 @@ pub fn find_inference(
     find(alloc, filters, &weak_goal(left, right))
 }
 
-/// The same for an inference that the left tree is greater, as where the line is not `=`.
+/// Finds a line by which the left tree is greater than the right one, so that the line is not `=`.
 pub fn find_greater(
     alloc: Global,
     filters: &Filters,

@@ -49,7 +49,7 @@ pub fn goals_by<'a>(
     }
 }
 
-// The same for `m`, where the argument at the place is to get smaller.
+// The goals of the letter `m`, where the argument at the place is to get smaller.
 fn goals_by_argument<'a>(
     alloc: Global,
     filters: &Filters,

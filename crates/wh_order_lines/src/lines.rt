@@ -137,7 +137,7 @@ fn line_between(
     }
 }
 
-// The same where the left side is not greater.
+// A line by which the left side is at least the right one, where it is not greater.
 fn weak_line(
     alloc: Global,
     filters: &Filters,

@@ -6,9 +6,9 @@ use wh_types::List;
 /// Argument filters of all symbols and of some marked symbols.
 #[derive(Drop)]
 pub struct Filters {
-    /// That of each symbol, in the order of their numbers.
+    /// The filter of each symbol, in the order of their numbers.
     pub funs: FilterList,
-    /// Those of marked symbols.
+    /// The filters of the marked symbols.
     pub marks: MarkFilterList,
 }
 

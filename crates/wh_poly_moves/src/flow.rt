@@ -59,7 +59,7 @@ impl Flow {
         }
     }
 
-    /// The same where no move is between the two yet.
+    /// The giver gives the amount to the taker, where no move is between the two yet.
     pub fn give_first(&mut self, giver: usize, taker: usize, amount: u128) -> Result<(), AllocError>
         requires giver_here { giver < length self.old.free.items }
         requires taker_here { taker < length self.old.want.items }

@@ -18,7 +18,7 @@ use wh_types::SimpleType;
 /// Where the monomials of a variable stand.
 #[derive(Clone, Copy)]
 pub struct Place {
-    /// That of the variable alone.
+    /// The place of the variable alone.
     pub alone: usize,
     /// Of a functional variable, where its row of products begins; of one of a sort, where it stands in each row.
     pub row: usize,

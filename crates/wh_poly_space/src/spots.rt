@@ -90,7 +90,7 @@ fn spot_of_two(x: usize, y: usize) -> Spot
     }
 }
 
-/// The same spots in the order of normal forms.
+/// The spots of the scope in the order of normal forms.
 pub fn spots_in_order(alloc: Global, scope: &[SimpleType]) -> Result<Vec<Spot>, AllocError>
     ensures { IfOk result (λ spots. AreAllSpots (tys scope.now) spots.items) }
 {

@@ -13,7 +13,7 @@ pub fn canonical_texts_are_read_back()
     ensures { (d : SystemData) → IsWellMadeSystem d → Reads (system_text d) d }
 {}
 
-/// The same of a system of the program, which is always well made.
+/// The text of a system of the program, which is always well made, is read back as this system.
 pub fn printed_systems_are_read_back(system: &System)
     ensures { Reads (system_text (system_data system.now)) (system_data system.now) }
 {

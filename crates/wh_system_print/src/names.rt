@@ -19,11 +19,11 @@ use wh_types::{Bytes, counted};
 /// The names in a rule or a pair.
 #[derive(Drop)]
 pub struct PrintedNames<'a> {
-    /// Those of the sorts.
+    /// The names of the sorts.
     pub sorts: &'a [Name],
-    /// Those of the symbols.
+    /// The names of the symbols.
     pub funs: &'a [Name],
-    /// Those of the meta-variables of the rule, which come first.
+    /// The names of the rule's meta-variables, which come first.
     pub own: &'a [Name],
     /// How many fresh meta-variables come behind these.
     pub fresh: u32,

@@ -69,7 +69,7 @@ pub fn calls_listed(table: &[bool], term: &Term) -> bool
     }
 }
 
-/// The same for the trees of a list.
+/// Whether each of the trees calls listed rules alone.
 pub fn each_calls_listed(table: &[bool], items: &[Term]) -> bool
     ensures { (S : Symbols) (M : List Declared) (rules : List RewriteRule) (listed : List ℕ) → AreFlatTrees S M (map tm items.now)
         → IsTableOf rules listed table.now → IsTrue result ↔ ListsRulesInEach rules listed (map tm items.now) }

@@ -29,7 +29,7 @@ pub enum NotClosed {
         /// Its number.
         rule: u32,
     },
-    /// The same of a pair of the set.
+    /// A pair of the set calls a rule that is not listed.
     Pair {
         /// Its number.
         pair: u32,

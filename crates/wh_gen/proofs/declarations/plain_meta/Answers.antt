@@ -6,4 +6,4 @@ use Rattle.wh_gen.proofs.declarations.plain_meta.Goals as goal
 
 pub returns : goal.returns
 returns c =
-    rmeta_of c.in_ok-name.name c.in_ok-new.field-0 c.args.kind c.args.name.now no_types (rty c.args.kind) c.in_ok-name.ensures (ap rtys c.in_ok-new.ensures) refl
+    rmeta_of c.in_ok-name.name c.new.result c.args.kind c.args.name.now no_types (rty c.args.kind) c.in_ok-name.ensures (ap rtys c.new.ensures) refl

@@ -28,7 +28,7 @@ loop-mark-preserved c =
 
 pub returns : goal.returns
 returns c n cs proper count =
-    subst (λ F. IsFiltered n (n + c.args.symbol) cs F (reverse c.args.behind.items) (Mark c.args.symbol c.in_ok-new.field-0))
+    subst (λ F. IsFiltered n (n + c.args.symbol) cs F (reverse c.args.behind.items) (Mark c.args.symbol c.new.result))
     (sym (ap (λ (xs : List MarkFilter). mark_among (map mark_filter xs) c.args.symbol) (sym c.as_slice-mark-items.ensures)
     ∙ mark_end c.as_slice-mark-items.result.now c.loop-mark.mark-index c.args.symbol c.loop-mark-test.false c.loop-mark.invariant))
-    (mark_alone n c.args.symbol cs (reverse c.args.behind.items) c.in_ok-new.field-0 c.in_ok-new.ensures)
+    (mark_alone n c.args.symbol cs (reverse c.args.behind.items) c.new.result c.new.ensures)

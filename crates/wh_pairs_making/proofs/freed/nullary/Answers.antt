@@ -5,4 +5,4 @@ use Rattle.wh_terms.proofs.TermLemmas.{tm_meta}
 use Rattle.wh_pairs_making.proofs.freed.nullary.Goals as goal
 
 pub returns : goal.returns
-returns c = tm_meta c.args.meta c.in_ok-new.field-0 ∙ ap (λ ts. meta c.args.meta (tms ts)) c.in_ok-new.ensures
+returns c = tm_meta c.args.meta c.new.result ∙ ap (λ ts. meta c.args.meta (tms ts)) c.new.ensures

@@ -1,4 +1,4 @@
--- Both calls are worth what the polynomials of the sides mean.
+-- The calls on the two sides are worth what the polynomials of the sides mean.
 use Rattle.wh_poly_meaning.proofs.PairsEnd.{pair_worth}
 use Rattle.wh_poly_meaning.proofs.calls.covered_pairs_do_not_raise_calls.Goals as goal
 

@@ -34,12 +34,12 @@ returns-in_err-place c =
     let i = c.loop-token.token-index in
     let p = rparts c.loop-token.parts in
     let q = held.place c.loop-token.place in
-    fault_up Place Parts c.from_residual-in_err-place.result c.in_err-place.field-0.0
+    fault_up Place Parts c.from_residual.result c.in_err-place.field-0.0
     (λ (parts : Parts). Parses (letters text ts) (rparts parts))
     (λ fault. r.step (r.inside p q) (placed (cut_token text (get_or ts i none))) ≡ held.stopped fault)
     (λ fault. held.fault_offset fault ≡ (get_or ts i none).from)
     (HasSyntaxFault (letters text ts) (length text))
-    c.from_residual-in_err-place.ensures.1
+    c.from_residual.ensures.1
     (λ fault. stops_there text ts i none p q fault c.loop-token-test.true c.loop-token.invariant)
     c.in_err-place.ensures.stops c.in_err-place.ensures.stops_at
 

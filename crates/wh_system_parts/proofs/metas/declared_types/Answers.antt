@@ -18,9 +18,9 @@ returns-in_err-declared_type c =
     let xs = c.as_slice-kind-items.result.now in
     let args = rtys c.args.kinds.now in
     let start = ap (λ ys. first_fault (types_tests S (rtys ys))) (sym c.as_slice-kind-items.ensures) in
-    error_on (type_tests S (rty c.kind-item.result)) (types_tests S args) c.from_residual-in_err-declared_type.result c.in_err-declared_type.field-0.0
+    error_on (type_tests S (rty c.kind-item.result)) (types_tests S args) c.from_residual.result c.in_err-declared_type.field-0.0
     (λ (a : SimpleType). type_meant S (rty c.kind-item.result) ≡ Some (ty a)) (λ (types : List SimpleType). types_of_raw S args ≡ tys types)
-    c.from_residual-in_err-declared_type.ensures.1
+    c.from_residual.ensures.1
     (λ f failed. start ∙ c.loop-kind.invariant.0 ∙ typed_fails S xs c.loop-kind.kind-index c.kind-item.result f c.loop-kind-test.true c.kind-item.is failed)
     c.in_err-declared_type.ensures
 

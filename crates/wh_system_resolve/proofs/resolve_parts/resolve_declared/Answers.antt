@@ -26,7 +26,7 @@ returns-in-Some c =
     let bare = ap not (eq-eqb (length (tys dm.args)) 0 (length-map dm.args ty ∙ sym (ap length c.as_slice-in-Some.ensures) ∙ empty)) in
     record {
       passed = plain_tests s n c.args.at z (declared_meta dm) num found ∙ ap (λ b. first_of b (IllTyped c.args.at) None) bare;
-      term = plain_meta s n z num ∙ ap (λ ts. Some (meta z (tms ts))) (sym c.in_ok-new.ensures) ∙ ap Some (sym (tm_meta z c.in_ok-new.field-0));
+      term = plain_meta s n z num ∙ ap (λ ts. Some (meta z (tms ts))) (sym c.new.ensures) ∙ ap Some (sym (tm_meta z c.new.result));
       kind = plain_kind s n z (declared_meta dm) num found bare;
     }
 

@@ -10,7 +10,7 @@ use Rattle.wh_poly_arithmetic.proofs.totals.Total.finish.Goals as goal
 
 pub returns-in_default-clause-ok : goal.returns-in_default-clause-ok
 returns-in_default-clause-ok c = let none : length c.args.self.parts.items ≤ 0 = search rules in
-    nothing_added c.in_ok-new.field-0 c.args.self.parts.items c.in_ok-new.ensures none
+    nothing_added c.new.result c.args.self.parts.items c.new.ensures none
 
 pub within-requires : goal.within-requires
 within-requires c =
@@ -19,8 +19,8 @@ within-requires c =
 
 pub returns-in_err-value-clause-fault : goal.returns-in_err-value-clause-fault
 returns-in_err-value-clause-fault c =
-    passed_on c.within.result c.from_residual-in_err-value.result c.in_err-value.field-0.0 (λ e. ExceedsAs e (poly c.in-Some.last)) (λ e. ExceedsAs e (total c.args.self))
-    c.from_residual-in_err-value.ensures.1 c.in_err-value.ensures.fault
+    passed_on c.within.result c.from_residual.result c.in_err-value.field-0.0 (λ e. ExceedsAs e (poly c.in-Some.last)) (λ e. ExceedsAs e (total c.args.self))
+    c.from_residual.ensures.1 c.in_err-value.ensures.fault
     (λ e h. last_alone_exceeds e c.args.self.parts.items c.pop.new.self.items c.in-Some.last c.in-Some.ensures.items c.requires.0 h)
 
 pub loop-alloc-init : goal.loop-alloc-init
