@@ -115,7 +115,5 @@ two_factors us old mid u v x y ps qs none first second head args head_2 args_2 =
     ∙ ap₂ (λ x ps. times x ps (times (out-Atom v).head (polys (out-Atom v).args) no_factors)) head args
     ∙ ap₂ (λ y qs. times x ps (times y qs no_factors)) head_2 args_2
 
-pub empty_is_zero : (r : Result Poly AllocError) (asked : Bool) (sum : Polynomial) → asked ≡ false → IfOk r (λ p. monomials p ≡ [])
-    → IfOk r (λ p. poly p ≡ cond asked sum zero_poly)
-empty_is_zero (Ok p) asked sum is none = poly_is p ∙ ap sum_of none ∙ sym (ap (λ (b : Bool). cond b sum zero_poly) is)
-empty_is_zero (Err e) asked sum is none = tt
+pub empty_is_zero : (p : Poly) (asked : Bool) (sum : Polynomial) → asked ≡ false → monomials p ≡ [] → poly p ≡ cond asked sum zero_poly
+empty_is_zero p asked sum is none = poly_is p ∙ ap sum_of none ∙ sym (ap (λ (b : Bool). cond b sum zero_poly) is)

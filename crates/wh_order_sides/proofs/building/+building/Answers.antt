@@ -125,8 +125,8 @@ cores_under-returns-in_err-argument-clause-built t c =
     let Δ = scope c.loop-item.binders.items in
     let here = argued S M Δ (tm c.item-item.result) in
     let all = cores S M Γ (tms c.args.items.now) in
-    passed_on c.from_residual-in_err-argument.result c.in_err-argument.field-0.0 (IsBuilt c.loop-item.left here) (AreBuilt c.args.room all)
-    (c.loop-item.left < size here) (c.args.room < sizes all) c.from_residual-in_err-argument.ensures.1 c.in_err-argument.ensures.built
+    passed_on c.from_residual.result c.in_err-argument.field-0.0 (IsBuilt c.loop-item.left here) (AreBuilt c.args.room all)
+    (c.loop-item.left < size here) (c.args.room < sizes all) c.from_residual.ensures.1 c.in_err-argument.ensures.built
     (more_wide S M Γ Δ c.args.room c.loop-item.left c.as_slice-item-items.result.now c.args.items.now c.loop-item.results c.loop-item.item-index c.item-item.result
     c.as_slice-item-items.ensures c.loop-item-test.true c.item-item.is (ap scope c.loop-item.invariant.kept) c.loop-item.invariant.built)
 

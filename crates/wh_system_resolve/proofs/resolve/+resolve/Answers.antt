@@ -133,8 +133,8 @@ resolve_each-returns-in_err-term-clause-told t c =
     let u = rtm c.item-item.result in
     let e = c.in_err-term.field-0.0 in
     let here = subst (λ (ps : List Around). Fails (first_fault (naming_tests s (typed ps) u)) e) c.loop-item.invariant.0 (term_fails s (typed c.loop-item.passed.items) u e c.in_err-term.ensures.told) in
-    subst (λ (ys : List RawTerm). ResolvesEach s bs (rtms ys) c.from_residual-in_err-term.result) c.as_slice-item-items.ensures
-    (matched_err (AreResolved s bs (rtms xs)) (namings_tests s bs (rtms xs)) c.from_residual-in_err-term.result e c.from_residual-in_err-term.ensures.1
+    subst (λ (ys : List RawTerm). ResolvesEach s bs (rtms ys) c.from_residual.result) c.as_slice-item-items.ensures
+    (matched_err (AreResolved s bs (rtms xs)) (namings_tests s bs (rtms xs)) c.from_residual.result e c.from_residual.ensures.1
     (part_fails s bs (rtms xs) (rtms (drop c.loop-item.item-index xs)) (rtms (drop (c.loop-item.item-index + 1) xs)) (tms c.loop-item.trees) (types_of c.loop-item.kinds) u e c.loop-item.invariant.1
     (left_next xs c.loop-item.item-index c.item-item.result c.loop-item-test.true c.item-item.is) here))
 
