@@ -1,18 +1,14 @@
 use Rattle.std.proofs.Common.{◌≡◌, ◌<◌, ◌++◌, ◌∷◌, [], List, ap, subst, sym, ◌∙◌}
 use Rattle.std.proofs.lemmas.Option.{get_or_from_slice_get, slice_get_within}
 use Rattle.std.proofs.lemmas.List.Elements.{All-get_or}
-use Rattle.wh_terms.proofs.Results.{IfOk-map}
 use Rattle.wh_terms.specs.Rules.{RewriteRule}
 use Rattle.wh_loop_reached.specs.Listing.{AreAllLinked, IsLinked, LinkedBy, LeadTo}
 use Rattle.wh_loop_reached.proofs.ListingLemmas.{lead_start, lead_next}
 use Rattle.wh_loop_reached.proofs.listing.+steps_to.Goals as goal
 
 pub returns-in-None : goal.returns-in-None
-returns-in-None n c =
-    let entries = c.args.entries.now in
-    let e = c.args.entry.now in
-    IfOk-map (λ steps. steps ≡ []) (λ steps. (rules : List RewriteRule) → AreAllLinked rules entries → IsLinked rules entries e → LeadTo rules e steps) c.new.result
-    (λ steps none rules all linked. lead_start rules e steps none (subst (LinkedBy rules entries e) c.in-None.is linked)) c.new.ensures
+returns-in-None n c rules all linked =
+    lead_start rules c.args.entry.now c.new.result c.new.ensures (subst (LinkedBy rules c.args.entries.now c.args.entry.now) c.in-None.is linked)
 
 pub returns-in_ok-push-in-Some : goal.returns-in_ok-push-in-Some
 returns-in_ok-push-in-Some n c rules all linked =
