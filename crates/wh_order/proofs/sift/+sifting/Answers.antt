@@ -59,8 +59,8 @@ pub sift_each-loop-item-preserved : goal.sift_each-loop-item-preserved
 sift_each-loop-item-preserved t c =
     sifted_next (filtering_data c.args.filters.now) (declared_metas c.args.metas.now) c.as_slice-item-items.result.now c.loop-item.item-index c.item-item.result c.loop-item.results c.push.new.self
     c.in_ok-sift_before.field-0 c.loop-item.invariant
-    (inner_sifted (filtering_data c.args.filters.now) (declared_metas c.args.metas.now) c.item-item.result c.item-item.result c.new-in-loop-item.result.items c.in_ok-sift_before.field-0 c.in_ok-sift_before.field-0 refl
-    c.new-in-loop-item.ensures.items refl c.in_ok-sift_before.ensures)
+    (inner_sifted (filtering_data c.args.filters.now) (declared_metas c.args.metas.now) c.item-item.result c.item-item.result c.new.result.items c.in_ok-sift_before.field-0 c.in_ok-sift_before.field-0 refl
+    c.new.ensures.items refl c.in_ok-sift_before.ensures)
     c.in_ok-push.ensures.ok c.loop-item-test.true c.item-item.is
 
 pub sift_each-returns : goal.sift_each-returns
