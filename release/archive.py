@@ -16,7 +16,7 @@ from release.programs import Lacking
 # scripts that want the toolchain or the sources, and have no use without them
 AT_HOME = ("wanda-build", "wanda-release", "wanda-test", "wanda-unproved")
 # what a script calls by itself, and nobody else
-INNER = ("wanda-watched",)
+INNER = ("wanda-launch", "wanda-watched")
 # scripts that have modules of their own in a folder beside them
 MODULES = {"wanda-fun": "fun"}
 COMPLETED = ("wanda-all", "wanda-explain", "wanda-fun", "wanda-hunt", "wanda-page")
@@ -129,7 +129,8 @@ def links_at_top(scripts):
 def collect(top, found, libraries, tree):
     """All of the release but the file PROVED, by path."""
     scripts = scripts_of(top, tree)
-    entries = {**scripts, **programs_of(found, libraries), **manuals(tree), **completions(scripts), **documents(top, tree)}
+    entries = {**scripts, **programs_of(found, libraries), **manuals(tree), **completions(scripts)}
+    entries.update(documents(top, tree))
     for folder, to in FOLDERS.items():
         entries.update(copies(top, tree, f"release/{folder}", to))
     entries.update(links_at_top(scripts))
@@ -175,7 +176,8 @@ def make(top, folder, kit_name, kit, log):
     found, lacking = programs.built_programs(top)
     libraries = programs.libraries_for(found, kit / "toolchain" / "lib")
     entries = collect(top, found, libraries, tree)
-    sums = {path: hashlib.sha256(it.data).hexdigest() for path, it in entries.items() if path.startswith("libexec/") and it.data}
+    inner = {path: entry.data for path, entry in entries.items() if path.startswith("libexec/")}
+    sums = {path: hashlib.sha256(data).hexdigest() for path, data in inner.items()}
     gate = proved.read_gate(log) if log is not None else None
     entries[f"{DOCUMENTS}/PROVED"] = Entry(proved.text(tree, kit_name, gate, found, sums).encode())
     name = f"wanda-{tree.date}-x86_64-linux"

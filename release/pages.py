@@ -1,8 +1,8 @@
 """Makes a folder of HTML of the pages of the repository, with the links between them, and needs no network for it.
 
-The pages are README.md, docs/*.md, bench/*.md and what they link to as another page of examples/. A link to a page leads
-to its HTML, one to a picture to a copy of it, and one to a file of examples/ to the examples of the release. A link to
-another file of the repository, which no release has, is mere text.
+The pages are README.md, docs/*.md, bench/*.md and the README.md of a folder of examples/. A link to a page leads to its
+HTML, one to a picture to a copy of it, and one to a file of examples/ to the examples of the release. A link to another
+file of the repository, which no release has, is mere text.
 """
 
 import html
@@ -63,7 +63,8 @@ class Site:
             return f"pictures/{file.name}"
         data = (self.top / "examples").resolve()
         if file.exists() and (file == data or data in file.parents):
-            return os.path.join(self.examples, os.path.relpath(file, data)).rstrip("/.") + ("/" if file.is_dir() else "")
+            inside = os.path.normpath(os.path.join(self.examples, os.path.relpath(file, data)))
+            return f"{inside}/" if file.is_dir() else inside
         return None
 
     def write(self, folder):

@@ -69,8 +69,8 @@ def is_stated(tree, gate, programs):
 
 
 def first_line(tree, gate, programs):
-    """The line that `--version` prints."""
-    state = "proved, the gate passed" if is_stated(tree, gate, programs) else "the proof is not stated"
+    """The line that `--version` prints; scripts look for its last word, `proved`, where nothing unproved may run."""
+    state = "proved" if is_stated(tree, gate, programs) else "proof not stated"
     return f"wanda {tree.date}, commit {tree.commit[:12]}, {state}"
 
 
@@ -91,13 +91,13 @@ def told_program(program):
 
 def text(tree, kit, gate, programs, sums):
     """The file; `sums` has the sums of what lies in libexec/, by path."""
-    changed = "  with changes that are in no commit: the sums below are of the files as they were" if tree.is_changed else ""
-    lines = [first_line(tree, gate, programs), "", "commit", f"  {tree.commit}", changed, "kit and logic", f"  {kit}"]
-    lines += ["gate", *(f"  {line}" for line in told_gate(gate))]
+    lines = [first_line(tree, gate, programs), "", "commit", f"  {tree.commit}"]
+    if tree.is_changed:
+        lines.append("  with changes that are in no commit: the sums below are of the files as they were")
+    lines += ["kit and logic", f"  {kit}", "gate", *(f"  {line}" for line in told_gate(gate))]
     lines += ["programs", *(f"  {told_program(it)}" for it in programs)]
-    lines = [line for at, line in enumerate(lines) if line or at == 1]
     sums = [f"{value}  {path}" for path, value in sorted(sums.items())]
     sources = [f"{value}  {path}" for path, value in sorted(tree.sums.items())]
     how = HOW.format(commit=tree.commit, kit=kit)
-    parts = ["\n".join(lines), how.rstrip(), "Sums of the programs:", "\n".join(sums), "Sums of the sources:", "\n".join(sources)]
-    return "\n\n".join(parts) + "\n"
+    parts = ["\n".join(lines), how.rstrip(), "Sums of the programs:", "\n".join(sums)]
+    return "\n\n".join([*parts, "Sums of the sources:", "\n".join(sources)]) + "\n"
