@@ -43,16 +43,28 @@ def git(top, *words):
     return ran.stdout.decode()
 
 
+def commit_of(top):
+    """The commit, its day in UTC, and its time in seconds."""
+    name, seconds = git(top, "show", "-s", "--format=%H %ct", "HEAD").split()
+    day = datetime.datetime.fromtimestamp(int(seconds), datetime.timezone.utc).strftime("%Y-%m-%d")
+    return name, day, int(seconds)
+
+
+def version(top):
+    """The line that tells the state of the sources."""
+    name, day, _ = commit_of(top)
+    return f"wanda {day}, commit {name[:12]}"
+
+
 def read_tree(top):
-    """The state of the repository."""
-    seconds = int(git(top, "show", "-s", "--format=%ct", "HEAD"))
-    date = datetime.datetime.fromtimestamp(seconds, datetime.timezone.utc).strftime("%Y-%m-%d")
+    """The state of the repository, and the time of its commit."""
+    name, day, seconds = commit_of(top)
     files = [top / name for name in git(top, "ls-files", "-z").split("\0") if name]
     files = [file for file in files if file.is_file() and not file.is_symlink()]
     sums = {str(file.relative_to(top)): hashlib.sha256(file.read_bytes()).hexdigest() for file in files}
     # a new file counts where the prover would read it
     changes = git(top, "status", "--porcelain", "-uno") + git(top, "ls-files", "-o", "--exclude-standard", "crates")
-    return proved.Tree(git(top, "rev-parse", "HEAD").strip(), date, bool(changes), sums), seconds
+    return proved.Tree(name, day, bool(changes), sums), seconds
 
 
 def tracked(top, tree, folder):
@@ -91,9 +103,9 @@ def programs_of(found, libraries):
 
 
 def manuals(tree):
-    """The manual pages, with the date and the commit in their feet."""
+    """The manual pages of the commands that there are, with the date and the commit in their feet."""
     made = {}
-    for file in sorted((pages.HERE / "man").glob("*.1")):
+    for file in sorted(it for it in (pages.HERE / "man").glob("*.1") if it.stem in tree.sums):
         text = file.read_text(encoding="utf-8").replace("@DATE@", tree.date).replace("@COMMIT@", tree.commit[:12])
         made[f"share/man/man1/{file.name}"] = Entry(text.encode())
     return made

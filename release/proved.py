@@ -14,7 +14,7 @@ How to prove it anew, which takes the kit and about an hour (bench/COSTS.md), at
     git checkout {commit}
     rt version                       # prints: {kit}
     rt ci --anew > gate.log          # proves all crates, and tries the edits that must be refused
-    ./wanda-build PROGRAM            # for each program below: its crate's name
+    ./wanda-build PROGRAM            # for each program below: wanda, explain, ..
     sha256sum crates/*/out/wanda*    # the sums of the programs below
     ./wanda-release DIR --gate gate.log
 

@@ -5,7 +5,7 @@ _wanda_companions() {
   local file folder
   file=$(type -P -- "$1") && folder=$(dirname "$(readlink -f "$file")") || return
   for file in "$folder"/wanda-*; do
-    [ -x "$file" ] && [ "$file" != "$folder/wanda-watched" ] && printf '%s\n' "${file##*/wanda-}"
+    [ -x "$file" ] && [[ $file != *-watched && $file != *-launch ]] && printf '%s\n' "${file##*/wanda-}"
   done
 }
 
@@ -26,7 +26,8 @@ _wanda_place() {
   local at=$1 place=0
   while [ "$at" -lt "$COMP_CWORD" ]; do
     case ${COMP_WORDS[at]} in
-      --tries | --depth | --visited | --steps | --jobs | --seconds | --out | --gate) at=$((at + 1)) ;;
+      --tries | --depth | --visited | --steps | --jobs | --seconds | --out | --gate | --engine | --sshlogin | --at)
+        at=$((at + 1)) ;;
       -*) ;;
       *) place=$((place + 1)) ;;
     esac
@@ -55,29 +56,36 @@ _wanda_companion() {
   place=$(_wanda_place "$first")
   case $name:$current in
     explain:-*) _wanda_words "$current" '--lint --graph --help --version' ;;
-    all:-*) _wanda_words "$current" '--jobs --seconds --out --help --version' ;;
-    release:-*) _wanda_words "$current" '--gate --help' ;;
-    fun:-*) _wanda_words "$current" '--out --prove --table --json --explain --hunt --jobs --help' ;;
+    all:-*) _wanda_words "$current" '--jobs --seconds --out --proved --one --engine --sshlogin --at --help --version' ;;
+    release:-*) _wanda_words "$current" '--gate --help --version' ;;
+    build:-*) _wanda_words "$current" '--unproved --help --version' ;;
+    test:-*) _wanda_words "$current" '--no-gate --list --help --version' ;;
+    fun:-*)
+      _wanda_words "$current" '--out --prove --table --json --explain --hunt --jobs --seconds --all-instances
+        --no-conditions --no-copies --no-patterns --no-unfold --help' ;;
     *:-*) _wanda_words "$current" '--help --version' ;;
     explain:*) if [ "$place" = 0 ]; then _wanda_files "$current" afs; else _wanda_files "$current" cert found; fi ;;
     hunt:* | page:*) _wanda_files "$current" afs ;;
     fun:*) _wanda_files "$current" hs ;;
     all:* | release:*) _wanda_files "$current" ;;
+    build:*) _wanda_words "$current" 'wanda explain' ;;
   esac
 }
 
 _wanda() {
   local current=${COMP_WORDS[COMP_CWORD]} name=${COMP_WORDS[0]##*/}
+  local commands='prove check show reduce refute upgrade gen'
   COMPREPLY=()
   case ${COMP_WORDS[COMP_CWORD - 1]} in
-    --tries | --depth | --visited | --steps | --jobs | --seconds) return ;;
+    --tries | --depth | --visited | --steps | --jobs | --seconds | --sshlogin | --at) return ;;
+    --engine) _wanda_words "$current" 'threads parallel'; return ;;
     --gate) _wanda_files "$current" log txt; return ;;
     --out) _wanda_files "$current" afs; return ;;
   esac
   if [ "$name" != wanda ]; then
     _wanda_companion "${name#wanda-}" "$current" 1
   elif [ "$COMP_CWORD" = 1 ]; then
-    _wanda_words "$current" "prove check show reduce refute upgrade gen $(_wanda_companions "${COMP_WORDS[0]}") --help --version"
+    _wanda_words "$current" "$commands $(_wanda_companions "${COMP_WORDS[0]}") --help --version"
   else
     case ${COMP_WORDS[1]} in
       prove | check | show | reduce | refute | upgrade | gen) _wanda_command "$current" ;;

@@ -5,7 +5,7 @@ function __wanda_companions
     set -l words (commandline -opc)
     set -l file (command -s -- $words[1]; or realpath -- $words[1] 2>/dev/null)
     for it in (dirname (realpath -- $file 2>/dev/null))/wanda-*
-        test -x $it; and not string match -q '*watched' $it; and string replace -r '.*/wanda-' '' $it
+        test -x $it; and not string match -qr '(watched|launch)$' $it; and string replace -r '.*/wanda-' '' $it
     end
 end
 
@@ -50,11 +50,26 @@ complete -c wanda-all -f -a '(__fish_complete_directories)'
 complete -c wanda-all -l jobs -x -d 'commands side by side'
 complete -c wanda-all -l seconds -x -d 'for each command'
 complete -c wanda-all -l out -r -d 'where the results go'
+complete -c wanda-all -l proved -d 'only a proved program'
+complete -c wanda-all -l one -r -d 'one system'
+complete -c wanda-all -l engine -x -a 'threads parallel' -d 'what runs the jobs'
+complete -c wanda-all -l sshlogin -x -d 'a machine'
+complete -c wanda-all -l at -x -d 'where wanda is on it'
 complete -c wanda-hunt -f -a '(__wanda_files afs)'
 complete -c wanda-page -f -a '(__wanda_files afs)'
 complete -c wanda-fun -f -a '(__wanda_files hs)'
 complete -c wanda-fun -l out -r -d 'where the system goes'
-complete -c wanda-build -f -a 'wanda wanda_explain'
+complete -c wanda-fun -l prove -d 'and look for proofs'
+complete -c wanda-fun -l table -d 'with tabs'
+complete -c wanda-fun -l json -d 'as JSON'
+complete -c wanda-fun -l explain -x -d 'a function'
+complete -c wanda-fun -l hunt -d 'look for loops'
+complete -c wanda-fun -l jobs -x -d 'side by side'
+complete -c wanda-fun -l seconds -x -d 'for each search'
+complete -c wanda-build -f -a 'wanda explain'
+complete -c wanda-build -l unproved -d 'without its proof'
+complete -c wanda-test -f -l no-gate -d 'without the gate'
+complete -c wanda-test -l list -d 'the names of the tests'
 complete -c wanda-release -f -a '(__fish_complete_directories)'
 complete -c wanda-release -l gate -r -d 'what the gate printed'
 for it in wanda-explain wanda-all wanda-hunt wanda-page wanda-fun wanda-build wanda-release wanda-test
