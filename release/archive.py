@@ -151,7 +151,7 @@ def collect(top, found, libraries, tree):
 
 
 def member(path, entry, seconds):
-    """The head of a file in the archive: its owner is nobody's name, and its time that of the commit."""
+    """The head of a file in the archive: its owner is number 0 without a name, and its time that of the commit."""
     head = tarfile.TarInfo(path)
     head.mtime, head.mode = seconds, 0o755 if entry.is_program else 0o644
     if entry.target:
@@ -184,9 +184,9 @@ def write_archive(entries, name, seconds, file):
 
 def make(top, folder, kit_name, kit, log):
     """Makes the archive in a folder. Returns its path, the first line of PROVED and the crates that are not in it."""
-    tree, seconds = read_tree(top)
     found, lacking = programs.built_programs(top)
     libraries = programs.libraries_for(found, kit / "toolchain" / "lib")
+    tree, seconds = read_tree(top)
     entries = collect(top, found, libraries, tree)
     inner = {path: entry.data for path, entry in entries.items() if path.startswith("libexec/")}
     sums = {path: hashlib.sha256(data).hexdigest() for path, data in inner.items()}
