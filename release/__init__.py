@@ -1,0 +1,1 @@
+"""What ./wanda-release is made of: pages, programs, the file PROVED, and the archive."""
