@@ -1,7 +1,7 @@
 """From rules to the text of a system: names that a reader knows again, sorts, symbols, and rules with their lines."""
 
 import fun
-from fun import core, types
+from fun import core, prelude, types
 from fun.core import App, Con, Lam, Ref, Var
 from fun.messages import Message, Refused
 from fun.types import ARROW, LIST, UNIT, shown
@@ -105,7 +105,7 @@ class Names:
         """Functions first, then what belongs to them; with the types that differ, where there are several."""
         groups = {}
         for symbol in symbols:
-            groups.setdefault((symbol.parent, symbol.base), []).append(symbol)
+            groups.setdefault((symbol.parent, base_word(symbol)), []).append(symbol)
         for symbol in symbols:
             self.name_symbol(symbol, groups)
 
@@ -113,11 +113,12 @@ class Names:
         """The name of a symbol, after that of the one that it belongs to."""
         if symbol in self.symbol_names:
             return self.symbol_names[symbol]
-        members = groups.get((symbol.parent, symbol.base), [symbol])
+        members = groups.get((symbol.parent, base_word(symbol)), [symbol])
         word = plain(base_word(symbol))
         if len(members) > 1:
-            places = differing([one.types for one in members])
-            word += "".join("_" + type_word(symbol.types[place]) for place in places if place < len(symbol.types))
+            lists = [types_that_tell(one) for one in members]
+            own = types_that_tell(symbol)
+            word += "".join("_" + type_word(own[place]) for place in differing(lists) if place < len(own))
         if symbol.parent is not None:
             word = f"{self.name_symbol(symbol.parent, groups)}_{word}"
         self.symbol_names[symbol] = self.symbol_namer.fresh(word)
@@ -133,7 +134,14 @@ class Names:
 
 def base_word(symbol):
     """The name of a symbol without what tells instances apart."""
-    return symbol.base
+    if symbol.method is not None and symbol.kind != "copy":
+        return symbol.method[0]
+    return symbol.base.rstrip("'") if symbol.kind == "known" else symbol.base
+
+
+def types_that_tell(symbol):
+    """The types that tell instances of one function apart."""
+    return (symbol.method[1],) if symbol.method is not None and symbol.kind != "copy" else symbol.types
 
 
 # What a system has
@@ -297,7 +305,7 @@ class Emitter:
         owner = rule.symbol
         while owner.parent is not None:
             owner = owner.parent
-        return f"# known: {owner.function}"
+        return f"# {words_of(owner)}"
 
     def system(self, symbols):
         """The system of symbols that call no others."""
@@ -357,7 +365,10 @@ def words_of(symbol):
     if symbol.kind == "copy":
         return symbol.words or f"{symbol.function} for a function that is known"
     if symbol.kind == "known":
-        return f"{symbol.function} of the Prelude" if symbol.method is None else f"{symbol.method[0]} at {shown(symbol.method[1])}"
+        if symbol.method is not None:
+            return f"{symbol.method[0]} at the type {shown(symbol.method[1])}"
+        module = "Nat" if symbol.function in prelude.NAT_NAMES + prelude.NAT_ARITHMETIC else "the Prelude"
+        return f"{symbol.function.rstrip(chr(39))} of {module}"
     return f"the function {symbol.function}"
 
 

@@ -303,7 +303,7 @@ class Maker:
     def choice(self, condition, yes, no, place):
         """A choice by a condition."""
         false, true = (Con(info, ()) for info in self.program.bool.constructors)
-        return Switch(condition, [(false, [], no), (true, [], yes)], core.type_of(yes), place)
+        return Switch(condition, [(true, [], yes), (false, [], no)], core.type_of(yes), place)
 
     def case(self, node, env, table):
         """A `case`: a binding of what it looks at, with a tree of choices."""

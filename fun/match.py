@@ -5,7 +5,7 @@ equations together become a tree of choices by one constructor each, whose leave
 Maranget 2008): where the first equation that is left wants a constructor, that place is looked at next.
 """
 
-from fun.core import Con, Let, Switch, Var, split_arrows
+from fun.core import Con, Let, Mark, Switch, Var, split_arrows
 from fun.messages import Message, Refused
 from fun.types import LIST
 
@@ -46,6 +46,7 @@ def compiled(rows, fail):
             raise Refused([Message(line, column, f"this equation would become more than {MOST_LEAVES} rules, since those before "
                                    "it overlap with it in many ways: match fewer arguments at once, or write the cases out")])
         body = first.build(lambda: compiled(rows[1:], fail)) if first.falls else first.build(None)
+        body = Mark(first.place[0], body)
         for variable, column in reversed(aliases):
             body = Let(variable, column, body, first.place[0])
         return body

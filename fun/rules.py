@@ -298,7 +298,7 @@ class RuleMaker:
     def switched(self, condition, yes, no, node):
         """A choice by a condition at the place of another."""
         false, true = (Con(info, ()) for info in self.program.bool.constructors)
-        return Switch(condition, [(false, [], no), (true, [], yes)], node.type, node.place)
+        return Switch(condition, [(true, [], yes), (false, [], no)], node.type, node.place)
 
     def parts(self, condition):
         """The known name of a condition and its arguments, or None."""
