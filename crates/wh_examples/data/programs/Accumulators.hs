@@ -126,16 +126,30 @@ stats = foldl add (0, 0, 20, 0)
     add (n, total, low, high) x = (n + 1, total + x, min low x, max high x)
 
 -- >>> minMax [3, 1, 2]
+-- Just (1,3)
 -- >>> partitionBy (> 2) [1, 2, 3, 4 :: Nat]
+-- ([3,4],[1,2])
 -- >>> map fib [0, 1, 5, 7]
+-- [0,1,5,13]
 -- >>> fibPair 5
+-- (5,8)
 -- >>> unzip2 [(1, True), (2 :: Nat, False)]
+-- ([1,2],[True,False])
 -- >>> splitAt' 2 [1, 2, 3 :: Nat]
+-- ([1,2],[3])
 -- >>> spanBy (< 3) [1, 2, 3, 1 :: Nat]
+-- ([1,2],[3,1])
 -- >>> runs [True, True, False]
+-- [(True,2),(False,1)]
 -- >>> expand [(True, 2), (False, 1)]
+-- [True,True,False]
 -- >>> maxSegment [(True, 3), (False, 2), (True, 4)]
+-- 5
 -- >>> divMod' 17 5
+-- Just (3,2)
 -- >>> labels [True, False]
+-- [(0,True),(1,False)]
 -- >>> stats [4, 2, 6]
+-- (3,12,2,6)
 -- >>> digitSum [1, 2, 3, 4]
+-- (4,6)

@@ -125,14 +125,26 @@ counts :: Ord a => [a] -> Map a Nat
 counts = foldl (\m x -> insertWith (+) x 1 m) []
 
 -- >>> fromPairs [(3, True), (1, False), (3 :: Nat, False)]
+-- [(1,False),(3,True)]
 -- >>> find 2 [(1, True), (2 :: Nat, False)]
+-- Just False
 -- >>> unionWith (+) [(1, 2), (3, 4)] [(1, 5), (2 :: Nat, 6 :: Nat)]
+-- [(1,7),(2,6),(3,4)]
 -- >>> intersectionWith (,) [(1, True), (2, False)] [(2 :: Nat, 5 :: Nat)]
+-- [(2,(False,5))]
 -- >>> invert [(1, True), (2, False), (3 :: Nat, True)]
+-- [(False,[2]),(True,[1,3])]
 -- >>> groupBy (> 2) [1, 4, 2, 3 :: Nat]
+-- [(False,[1,2]),(True,[4,3])]
 -- >>> union [1, 3] [2, 3 :: Nat]
+-- [1,2,3]
 -- >>> difference [1, 2, 3] [2 :: Nat]
+-- [1,3]
 -- >>> isSubset [1, 3] [1, 2, 3 :: Nat]
+-- True
 -- >>> counts [True, False, True]
+-- [(False,1),(True,2)]
 -- >>> alter (maybe (Just 1) (const Nothing)) 2 [(2 :: Nat, 7 :: Nat)]
+-- []
 -- >>> findOr 0 True [(False, 4 :: Nat)]
+-- 0

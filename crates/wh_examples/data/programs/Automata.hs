@@ -127,10 +127,18 @@ balanced = go 0
     go (Succ depth) (B : rest) = go depth rest
 
 -- >>> accepts (Dfa 0 [1] (\q c -> if c == A then 1 - q else q)) [A, B, A, A]
+-- True
 -- >>> acceptsNfa (Nfa [0] [2] [(0, A, 1), (1, B, 2)] [(2, 0)]) [A, B, A, B]
+-- True
 -- >>> closure [(0, 1), (1, 2)] [0]
+-- [2,1,0]
 -- >>> flipper 2 (Tape [] True [False])
+-- Just (Tape [True,False] False [])
 -- >>> counterMachine 20 [Loop 0 [Dec 0, Inc 1]] [(0, 2), (1, 1)]
+-- Just [(0,0),(1,3)]
 -- >>> balanced [A, A, B, B]
+-- True
 -- >>> balanced [A, B, B]
+-- False
 -- >>> moveTape GoLeft (Tape [] True [])
+-- Tape [] False [True]

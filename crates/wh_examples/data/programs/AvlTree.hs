@@ -137,10 +137,18 @@ merge :: Ord k => (v -> v -> v) -> Avl k v -> Avl k v -> Avl k v
 merge f a b = foldKeys (insertWith f) b a
 
 -- >>> keys (fromList [(3, True), (1, False), (2 :: Nat, True)])
+-- [1,2,3]
 -- >>> find 2 (fromList [(1, 5), (2 :: Nat, 6 :: Nat)])
+-- Just 6
 -- >>> height (fromList [(1, 1), (2, 1), (3, 1), (4 :: Nat, 1 :: Nat)])
+-- 3
 -- >>> keys (delete 2 (fromList [(1, True), (2, True), (3 :: Nat, True)]))
+-- [1,3]
 -- >>> isBalanced (fromList [(1, 1), (2, 1), (3, 1), (4 :: Nat, 1 :: Nat)])
+-- True
 -- >>> range 2 3 (fromList [(1, 7), (2, 8), (3 :: Nat, 9 :: Nat)])
+-- [8,9]
 -- >>> merge (+) (fromList [(1 :: Nat, 2)]) (fromList [(1, 3 :: Nat)])
+-- Node 1 Nil 1 5 Nil
 -- >>> size (mapValues not (fromList [(True, True), (False, False)]))
+-- 2

@@ -140,13 +140,24 @@ gray (a : rest@(b : _)) = (if a == b then O else I) : gray rest
 gray bs = bs
 
 -- >>> fromNat 6
+-- [O,I,I]
 -- >>> toNat (add [I, I] [I, O, I])
+-- 8
 -- >>> toNat (multiply (fromNat 3) (fromNat 5))
+-- 15
 -- >>> decrement [O, O, I]
+-- [I,I]
 -- >>> compareBits [I, O, I] [O, I, I]
+-- LT
 -- >>> toNat (subtract' (fromNat 9) (fromNat 3))
+-- 6
 -- >>> divide (fromNat 17) (fromNat 5)
+-- ([I,I],[O,I])
 -- >>> toNat (gcdBits 10 (fromNat 12) (fromNat 18))
+-- 6
 -- >>> gray [I, O, I]
+-- [I,I,I]
 -- >>> shiftBy 2 [I]
+-- [O,O,I]
 -- >>> bits [I, O, I]
+-- 2

@@ -137,8 +137,14 @@ loads :: Expr -> [Nat]
 loads = fold (const []) (: []) (++) (++) (\c t e -> c ++ t ++ e)
 
 -- >>> compile (Add (Num 1) (Mul (Num 2) (Var 3)))
+-- [Push 1,Push 2,Load 3,MulI,AddI]
 -- >>> runCode (compile (Add (Num 1) (Mul (Num 2) (Num 3))))
+-- Just 7
 -- >>> optimise (Add (Num 0) (Mul (Var 1) (Num 1)))
+-- Var 1
 -- >>> peephole [Push 0, AddI, Push 3, Pop, Load 1]
+-- [Load 1]
 -- >>> decompile (compile (Add (Num 1) (Var 0)))
+-- Just (Add (Num 1) (Var 0))
 -- >>> loads (Add (Var 1) (Mul (Num 2) (Var 3)))
+-- [1,3]

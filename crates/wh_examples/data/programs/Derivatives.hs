@@ -140,13 +140,24 @@ rewrite rule = go
       Just e' -> e'
 
 -- >>> derive (X :*: X)
+-- Const 1 :*: X :+: X :*: Const 1
 -- >>> simplify (derive (X :*: X :+: Const 3))
+-- X :+: X
 -- >>> evalAt 3 (Pow X 2 :+: Const 1)
+-- 10
 -- >>> mulP [1, 1] [1, 1]
+-- [1,2,1]
 -- >>> evalP [1, 2, 1] 3
+-- 16
 -- >>> deriveP [5, 3, 2]
+-- [3,4]
 -- >>> composeP [0, 0, 1] [1, 1]
+-- [1,2,1,0]
 -- >>> toPoly (Pow (X :+: Const 1) 2)
+-- [1,2,1]
 -- >>> expand ((X :+: Const 1) :*: (X :+: Const 2))
+-- (X :*: X :+: X :*: Const 2) :+: (Const 1 :*: X :+: Const 1 :*: Const 2)
 -- >>> degree (Pow X 3 :*: X)
+-- 4
 -- >>> rewrite (\e -> if e == X then Just (Const 2) else Nothing) (X :+: X)
+-- Const 2 :+: Const 2

@@ -101,16 +101,30 @@ fibonacci :: Nat -> Nat
 fibonacci n = foldNat (\k a b -> k b (a + b)) (\a _ -> a) n 0 1
 
 -- >>> composeAll [(+ 1), (* 2)] (3 :: Nat)
+-- 7
 -- >>> foldLeft (-) 9 [1, 2, 3 :: Nat]
+-- 3
 -- >>> appendAll [[1], [2, 3], [4 :: Nat]]
+-- [1,2,3,4]
 -- >>> reverseFast [1, 2, 3 :: Nat]
+-- [3,2,1]
 -- >>> takeBy [True, False, True] 2
+-- [True,False]
 -- >>> zipFold [1, 2 :: Nat] [True, False, True]
+-- [(1,True),(2,False)]
 -- >>> evens [1, 2, 3, 4, 5 :: Nat]
+-- [1,3,5]
 -- >>> runAll [(+ 1), (* 2)] 3
+-- [4,8]
 -- >>> flattenTree (Fork (Leaf 1) (Fork (Leaf 2) (Leaf (3 :: Nat))))
+-- [1,2,3]
 -- >>> depths (Fork (Leaf True) (Fork (Leaf False) (Leaf True)))
+-- Fork (Leaf 1) (Fork (Leaf 2) (Leaf 2))
 -- >>> sumCont [1, 2, 3] (* 2)
+-- 12
 -- >>> addition 2 3
+-- 5
 -- >>> parityOf 5
+-- False
 -- >>> fibonacci 6
+-- 8

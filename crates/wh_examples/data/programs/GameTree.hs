@@ -102,10 +102,18 @@ chooseFrom :: Nat -> Maybe Nat
 chooseFrom n = best (\k -> if winning k then 0 else 1 :: Nat) (moves n)
 
 -- >>> grow 2 moves 2
+-- Rose 2 [Rose 1 [Rose 0 [],Rose 0 [],Rose 0 []],Rose 0 [],Rose 0 []]
 -- >>> leaves (grow 2 moves 2)
+-- [0,0,0,0,0]
 -- >>> countNodes (grow 3 moves 3)
+-- 13
 -- >>> depth (prune 1 (grow 3 moves 3))
+-- 2
 -- >>> map winning [0, 3, 4, 5, 8]
+-- [False,True,False,True,False]
 -- >>> chooseFrom 5
+-- Just 4
 -- >>> maximise (Rose 0 [Rose 3 [], Rose 0 [Rose 5 [], Rose 4 []]])
+-- 4
 -- >>> alpha 0 20 (Rose 0 [Rose 13 [], Rose 12 []])
+-- 8

@@ -121,10 +121,18 @@ constants (App f a) = App (constants f) (constants a)
 constants e = e
 
 -- >>> run (App (Lam 0 (Plus (Var 0) (Const 2))) (Const 3))
+-- Just (Number 5)
 -- >>> run (Let 1 (Const 4) (If (Var 1) (Plus (Var 1) (Var 1)) (Const 0)))
+-- Just (Number 8)
 -- >>> run (Var 3)
+-- Nothing
 -- >>> closed (Lam 0 (Var 0))
+-- True
 -- >>> freeVars (Let 0 (Var 1) (Plus (Var 0) (Var 2)))
+-- [1,2]
 -- >>> count (Lam 0 (Plus (Var 0) (Const 2)))
+-- 4
 -- >>> constants (If (Plus (Const 0) (Const 1)) (Plus (Const 2) (Const 2)) (Var 0))
+-- Const 4
 -- >>> rename (+ 1) (Lam 0 (Var 0))
+-- Lam 1 (Var 1)

@@ -131,15 +131,28 @@ padTo width x = fill width
     fill Zero ys = ys
 
 -- >>> count True [True, False, True]
+-- 2
 -- >>> addAll 2 [1, 2]
+-- [3,4]
 -- >>> multiples 3 7
+-- [0,3,6]
 -- >>> elemIndex 4 [2, 4, 6 :: Nat]
+-- Just 1
 -- >>> chunks 2 [1, 2, 3, 4, 5 :: Nat]
+-- [[1,2],[3,4],[5]]
 -- >>> separate (== 0) [1, 0, 2, 3, 0 :: Nat]
+-- [[1],[2,3],[]]
 -- >>> applyTimes 3 (* 2) (1 :: Nat)
+-- 8
 -- >>> prefixes [True, False]
+-- [[],[True],[True,False]]
 -- >>> countdown 7 1
+-- [7,5,3,1]
 -- >>> zipWithIndex (+) [5, 5, 5 :: Nat]
+-- [5,6,7]
 -- >>> isInfixOf [2, 3] [1, 2, 3, 4 :: Nat]
+-- True
 -- >>> rotate 2 [1, 2, 3 :: Nat]
+-- [3,1,2]
 -- >>> padTo 3 False [True]
+-- [True,False,False]

@@ -123,14 +123,26 @@ path (k : ks) (Node branches) = look k branches `andThen` path ks
 path _ _ = Nothing
 
 -- >>> sequenceAll [Just 1, Just (2 :: Nat)]
+-- Just [1,2]
 -- >>> sequenceAll [Just True, Nothing]
+-- Nothing
 -- >>> traverseAll (minus 5) [1, 2]
+-- Just [4,3]
 -- >>> keep (minus 5) [1, 7, 2]
+-- [4,3]
 -- >>> firstJust (guarded (> 3)) [1, 5, 9 :: Nat]
+-- Just 5
 -- >>> follow [[(1, 2)], [(2, 3)]] (1 :: Nat)
+-- Just 3
 -- >>> divide 17 5
+-- Just 3
 -- >>> average [2, 4, 6]
+-- Just 4
 -- >>> transfer 3 (Account 0 5, Account 1 2)
+-- Just (Account 0 2,Account 1 5)
 -- >>> payAll [1, 2, 3] (Account 0 5)
+-- Nothing
 -- >>> untilNothing 10 (\n -> minus n 3) 11
+-- 2
 -- >>> mapMaybe (+ 1) (Just (1 :: Nat))
+-- Just 2

@@ -142,12 +142,22 @@ pong 0 m = m
 pong n m = ping m (n - 1)
 
 -- >>> map isEven [0, 1, 2]
+-- [True,False,True]
 -- >>> flatten (Tree 1 (Cons (Tree 2 Nil) (Cons (Tree (3 :: Nat) Nil) Nil)))
+-- [1,2,3]
 -- >>> mirror (Tree 1 (Cons (Tree 2 Nil) (Cons (Tree (3 :: Nat) Nil) Nil)))
+-- Tree 1 (Cons (Tree 3 Nil) (Cons (Tree 2 Nil) Nil))
 -- >>> countStmt (Block [Assign 0 (Lit 1), When (Var 0) (Assign 1 (Add (Var 0) (Lit 2)))])
+-- 9
 -- >>> exec (Block [Assign 0 (Lit 2), Repeat 2 (Assign 0 (Add (Var 0) (Var 0)))]) []
+-- [(0,8),(0,4),(0,2)]
 -- >>> evalExpr (Do (Assign 3 (Lit 4)) (Add (Var 3) (Lit 1))) []
+-- (5,[(3,4)])
 -- >>> assigned (When (Do (Assign 3 (Lit 4)) (Var 3)) (Assign 5 (Lit 0)))
+-- [3,5]
 -- >>> map male [0, 1, 2, 3]
+-- [0,0,1,2]
 -- >>> alternate [1, 2, 3] [7, 8 :: Nat]
+-- [1,7,2,8,3]
 -- >>> ping 2 3
+-- 1

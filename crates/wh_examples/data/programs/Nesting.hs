@@ -143,12 +143,22 @@ levels n = first n
             third c = 1 + third (c - 1)
 
 -- >>> spread [1, 4, 2, 9]
+-- 7
 -- >>> histogram 3 [0, 2, 2, 1, 2]
+-- [1,1,3]
 -- >>> justify [1, 3]
+-- [[False,False,True],[True,True,True]]
 -- >>> triangle 4
+-- [[1],[1,1],[1,2,1],[1,3,3,1]]
 -- >>> schedule [3, 2, 2, 4]
+-- (7,4)
 -- >>> shadows 3
+-- 13
 -- >>> power 2 4
+-- 16
 -- >>> table [1, 2] [3, 4]
+-- [[3,4],[6,8]]
 -- >>> convert 2 6
+-- [0,1,1]
 -- >>> levels 3
+-- 16

@@ -137,17 +137,32 @@ isPerfect :: Nat -> Bool
 isPerfect n = foldr (+) 0 (filter (`divides` n) (upTo 1 (n - 1))) == n
 
 -- >>> map (divide 17) [0, 1, 4]
+-- [17,8,3]
 -- >>> modulo 17 5
+-- 2
 -- >>> gcd' 12 18
+-- 6
 -- >>> gcdBySubtraction 12 18
+-- 6
 -- >>> map log2 [1, 2, 7, 8]
+-- [0,1,2,3]
 -- >>> map fib [0, 1, 6]
+-- [0,1,8]
 -- >>> binomial 4 2
+-- 6
 -- >>> ackermann 2 2
+-- 7
 -- >>> primes 12
+-- [2,3,5,7,11]
 -- >>> isPrime 9
+-- False
 -- >>> root 10
+-- 3
 -- >>> collatz 6
+-- 8
 -- >>> mcCarthy 2
+-- 5
 -- >>> sumTo 4
+-- 10
 -- >>> isPerfect 6
+-- True

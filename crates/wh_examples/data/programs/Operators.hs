@@ -138,14 +138,26 @@ simplify (a :* b) = case (simplify a, simplify b) of
 simplify e = e
 
 -- >>> [1, 2] <+> [3, 4] <**> [2, 2]
+-- [7,10]
 -- >>> [5, 6, 7 :: Nat] !!! 1
+-- Just 6
 -- >>> [1, 2] +++ [2, 3] +++ [3, 4 :: Nat]
+-- [1,2,3,4]
 -- >>> [1, 2, 3] \\\ [2 :: Nat]
+-- [1,3]
 -- >>> True ==> False ==> True
+-- True
 -- >>> True <=> False
+-- False
 -- >>> tautology (Atom 0 :=> Atom 1 :\/ Atom 0)
+-- True
 -- >>> tautology (Atom 0 :\/ Atom 1)
+-- False
 -- >>> negateAll (Atom 0 :=> Atom 1 :/\ Atom 2)
+-- Atom 0 :/\ (Not (Atom 1) :\/ Not (Atom 2))
 -- >>> dot [1, 2] [3, 4]
+-- 11
 -- >>> pipeline [1, 2, 3]
+-- [6,4]
 -- >>> simplify (Num 0 :+ X :* Num 1 :+ Num 2 :* Num 0)
+-- X

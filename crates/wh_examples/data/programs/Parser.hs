@@ -115,9 +115,16 @@ calculate ts = case parse ts of
   Just e -> Just (eval e)
 
 -- >>> parse [Num 1, Plus, Num 2, Times, Num 3]
+-- Just (Add (Lit 1) (Mul (Lit 2) (Lit 3)))
 -- >>> calculate [Num 1, Plus, Num 2, Times, Num 3]
+-- Just 7
 -- >>> calculate [Open, Num 1, Plus, Num 2, Close, Times, Num 3]
+-- Just 9
 -- >>> parse [Num 1, Plus]
+-- Nothing
 -- >>> flatten (Mul (Add (Lit 1) (Lit 2)) (Lit 3))
+-- [Open,Num 1,Plus,Num 2,Close,Times,Num 3]
 -- >>> many number [Num 1, Num 2, Plus]
+-- Just ([1,2],[Plus])
 -- >>> orElse (token Open) item [Close, Open]
+-- Just (Close,[Open])

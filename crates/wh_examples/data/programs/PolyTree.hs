@@ -123,15 +123,28 @@ paths Leaf = [[]]
 paths (Node l x r) = map (x :) (paths l ++ paths r)
 
 -- >>> inOrder numbers
+-- [1,2,3,4,6]
 -- >>> inOrder phoneBook
+-- [(1,False),(2,True),(3,True)]
 -- >>> contains 3 numbers
+-- True
 -- >>> contains (2, False) phoneBook
+-- False
 -- >>> lookupName 1 phoneBook
+-- Just False
 -- >>> names phoneBook
+-- Node (Node Leaf 1 (Node Leaf 2 Leaf)) 3 Leaf
 -- >>> delete 2 numbers
+-- Node (Node (Node Leaf 1 Leaf) 3 Leaf) 4 (Node Leaf 6 Leaf)
 -- >>> depth numbers
+-- 3
 -- >>> leastOf phoneBook
+-- Just (1,False)
 -- >>> isFull (build [2, 1, 3 :: Nat])
+-- True
 -- >>> filterTree (> 2) numbers
+-- Node Leaf 3 (Node Leaf 4 (Node Leaf 6 Leaf))
 -- >>> zipTree (leaf True) (build [1, 2 :: Nat])
+-- Node Leaf (True,1) Leaf
 -- >>> paths (build [2, 1, 3 :: Nat])
+-- [[2,1],[2,1],[2,3],[2,3]]

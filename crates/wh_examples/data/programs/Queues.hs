@@ -121,11 +121,20 @@ roundRobin lists = case heads lists of
       (ys, yss) -> (x : ys, xs : yss)
 
 -- >>> toList (push 3 (push 2 (fromList [1 :: Nat])))
+-- [1,2,3]
 -- >>> peek (push True emptyQueue)
+-- Just True
 -- >>> size (pushAll [1, 2, 3] (emptyQueue :: Queue Nat))
+-- 3
 -- >>> breadth (Bin (Bin Tip 2 Tip) 1 (Bin Tip (3 :: Nat) (Bin Tip 4 Tip)))
+-- [1,2,3,4]
 -- >>> levels (Bin (Bin Tip 2 Tip) 1 (Bin Tip (3 :: Nat) (Bin Tip 4 Tip)))
+-- [[1],[2,3],[4]]
 -- >>> josephus 2 [1, 2, 3, 4, 5 :: Nat]
+-- [3,1,5,2,4]
 -- >>> put 4 (Buffer 2 [1, 2 :: Nat])
+-- Buffer 2 [2,4]
 -- >>> roundRobin [[1, 2, 3], [4], [5, 6 :: Nat]]
+-- [1,4,5,2,6,3]
 -- >>> isEmpty (emptyQueue :: Queue Bool)
+-- True

@@ -95,11 +95,20 @@ subset :: Ord a => Set a -> Set a -> Bool
 subset a b = all (\x -> member x b) (toList a)
 
 -- >>> toList (fromList [3, 1, 2, 5, 4 :: Nat])
+-- [1,2,3,4,5]
 -- >>> member 3 (fromList [1, 2, 3 :: Nat])
+-- True
 -- >>> member 7 (fromList [1, 2, 3 :: Nat])
+-- False
 -- >>> fromList [1, 2, 3 :: Nat]
+-- Node Black (Node Black Empty 1 Empty) 2 (Node Black Empty 3 Empty)
 -- >>> depth (fromList [1, 2, 3, 4, 5, 6, 7 :: Nat])
+-- 3
 -- >>> blackHeight (fromList [1, 2, 3, 4 :: Nat])
+-- Just 2
 -- >>> noRedRed (fromList [4, 3, 2, 1 :: Nat])
+-- True
 -- >>> toList (union (fromList [1, 3]) (fromList [2, 3 :: Nat]))
+-- [1,2,3]
 -- >>> subset (fromList [True]) (fromList [True, False])
+-- True

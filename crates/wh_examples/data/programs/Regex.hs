@@ -121,10 +121,18 @@ size (Star r) = 1 + size r
 size _ = 1
 
 -- >>> matches (Star (Seq (Sym A) (Sym B))) [A, B, A, B]
+-- True
 -- >>> matches (Star (Seq (Sym A) (Sym B))) [A, B, A]
+-- False
 -- >>> simplify (derive A (Seq (Sym A) (Star (Sym B))))
+-- Star (Sym B)
 -- >>> deriveAll (word [A, B]) [A, B]
+-- [Seq (Sym A) (Seq (Sym B) Eps),Sym B,Eps]
 -- >>> matches (power 3 (Alt (Sym A) (Sym C))) [A, C, A]
+-- True
 -- >>> reverseRegex (word [A, B])
+-- Seq (Seq Eps (Sym B)) (Sym A)
 -- >>> isEmptySet (Seq (Sym A) None)
+-- True
 -- >>> size (plus (optional (Sym C)))
+-- 8

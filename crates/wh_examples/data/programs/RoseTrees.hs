@@ -133,13 +133,24 @@ same :: Eq a => Rose a -> Rose a -> Bool
 same (Rose x ts) (Rose y us) = x == y && length ts == length us && and (zipWith same ts us)
 
 -- >>> size (Rose 1 [Rose 2 [], Rose (3 :: Nat) [Rose 4 []]])
+-- 4
 -- >>> preorder (Rose 1 [Rose 2 [], Rose (3 :: Nat) [Rose 4 []]])
+-- [1,2,3,4]
 -- >>> postorder (Rose True [Rose False []])
+-- [False,True]
 -- >>> levelsOf (Rose 1 [Rose 2 [], Rose (3 :: Nat) [Rose 4 []]])
+-- [[1],[2,3],[4]]
 -- >>> filterRose (> 1) (Rose 2 [Rose 1 [], Rose (3 :: Nat) []])
+-- Just (Rose 2 [Rose 3 []])
 -- >>> paths (Rose 1 [Rose 2 [], Rose (3 :: Nat) []])
+-- [[1,2],[1,3]]
 -- >>> total (Dir 0 [File 1 3, Dir 2 [File 3 4]])
+-- 7
 -- >>> findDir 2 (Dir 0 [File 1 3, Dir 2 []])
+-- Just [0,2]
 -- >>> annotate (Rose True [Rose False []])
+-- Rose (True,2) [Rose (False,1) []]
 -- >>> same (Rose 1 [Rose 2 []]) (Rose 1 [Rose (2 :: Nat) []])
+-- True
 -- >>> mapRose (+ 1) (Rose 1 [Rose (2 :: Nat) []])
+-- Rose 2 [Rose 3 []]

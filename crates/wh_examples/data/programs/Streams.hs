@@ -111,14 +111,26 @@ fixedPoint (Succ n) f x
     y = f x
 
 -- >>> takeN 3 (from 2)
+-- [2,3,4]
 -- >>> squares 4
+-- [0,1,4,9]
 -- >>> takeN 4 (cycle' [True, False])
+-- [True,False,True,False]
 -- >>> takeN 5 (fibs 0 1)
+-- [0,1,1,2,3]
 -- >>> takeN 4 (interleave (repeat' 0) (from 5))
+-- [0,5,0,6]
 -- >>> everySecond [1, 2, 3, 4, 5 :: Nat]
+-- [1,3,5]
 -- >>> prefix 3
+-- [0,1,2]
 -- >>> lookAt 3 (iterate' (* 2) (1 :: Nat))
+-- Just 8
 -- >>> searchFrom (> 4) 2
+-- 5
 -- >>> boundedIterate 3 (+ 2) (0 :: Nat)
+-- [0,2,4]
 -- >>> counter 3
+-- [3,2,1]
 -- >>> fixedPoint 9 (\n -> max 3 (n - 1)) (6 :: Nat)
+-- Just 3

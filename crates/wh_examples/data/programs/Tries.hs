@@ -140,12 +140,22 @@ autocomplete :: Nat -> [Letter] -> Trie v -> [[Letter]]
 autocomplete n w t = take n (map (w ++) (wordsOf (withPrefix w t)))
 
 -- >>> wordsOf (fromWords [[A, B], [B], [A]])
+-- [[A],[A,B],[B]]
 -- >>> search [A, B] (fromWords [[A, B], [B]])
+-- Just 2
 -- >>> member [B] (delete [B] (fromWords [[A, B], [B]]))
+-- False
 -- >>> sizeOf (unionTries (+) (fromWords [[A]]) (fromWords [[A], [B]]))
+-- 2
 -- >>> longestPrefix [A, A, B] (fromWords [[A, A, A]])
+-- [A,A]
 -- >>> countWords [[A], [B], [A]]
+-- Node Nothing (Node (Just 2) Tip Tip) (Node (Just 1) Tip Tip)
 -- >>> occursIn [B, A] [A, B, A]
+-- True
 -- >>> autocomplete 1 [A] (fromWords [[A, B], [B]])
+-- [[A,B]]
 -- >>> mapTrie (> 1) (fromWords [[A], []])
+-- Node (Just False) (Node (Just False) Tip Tip) Tip
 -- >>> prune (> 1) (fromWords [[A], [A, B]])
+-- Node Nothing (Node Nothing Tip (Node (Just 2) Tip Tip)) Tip

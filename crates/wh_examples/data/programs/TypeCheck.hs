@@ -138,9 +138,16 @@ evalTo n e = case step e of
   Just e' -> evalTo (n - 1) e'
 
 -- >>> typeOf [] (Lam TNat (Inc (Var 0)))
+-- Just (TNat :-> TNat)
 -- >>> typeOf [] (App (Lam TNat (Var 0)) (Truth True))
+-- Nothing
 -- >>> wellTyped (Cond (IsZero (Lit 0)) (Lit 1) (Lit 2))
+-- True
 -- >>> evalTo 5 (App (Lam TNat (Inc (Inc (Var 0)))) (Lit 3))
+-- Lit 5
 -- >>> evalTo 9 (First (Cond (IsZero (Lit 0)) (MkPair (Lit 1) (Lit 2)) (MkPair (Lit 3) (Lit 4))))
+-- Lit 1
 -- >>> shift 0 (Lam TNat (App (Var 0) (Var 1)))
+-- Lam TNat (App (Var 0) (Var 2))
 -- >>> subst 0 (Lit 7) (Lam TBool (App (Var 0) (Var 1)))
+-- Lam TBool (App (Var 0) (Lit 7))

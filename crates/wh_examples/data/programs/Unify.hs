@@ -114,11 +114,20 @@ depth (Var _) = 0
 depth (Fun _ ts) = 1 + foldr (\t n -> max (depth t) n) 0 ts
 
 -- >>> unify (Fun 0 [Var 1, Fun 2 []]) (Fun 0 [Fun 3 [], Var 4])
+-- Just [(1,Fun 3 []),(4,Fun 2 [])]
 -- >>> unify (Var 1) (Fun 0 [Var 1])
+-- Nothing
 -- >>> unify (Fun 0 [Var 1, Var 1]) (Fun 0 [Fun 1 [], Fun 2 []])
+-- Nothing
 -- >>> match (Fun 0 [Var 1, Var 2]) (Fun 0 [Fun 1 [], Fun 2 []]) []
+-- Just [(2,Fun 2 []),(1,Fun 1 [])]
 -- >>> apply [(1, Fun 2 [])] (Fun 0 [Var 1, Var 3])
+-- Fun 0 [Fun 2 [],Var 3]
 -- >>> isInstance (Fun 0 [Fun 1 []]) (Fun 0 [Var 5])
+-- True
 -- >>> ground (Fun 0 [Fun 1 [], Var 2])
+-- False
 -- >>> depth (Fun 0 [Fun 1 [], Fun 2 [Var 0]])
+-- 2
 -- >>> vars (Fun 0 [Var 1, Fun 2 [Var 3]])
+-- [1,3]

@@ -117,10 +117,18 @@ toList Leaf = []
 toList (Node l x r) = toList l ++ [x] ++ toList r
 
 -- >>> maybe [] (leave . modify (+ 1) . toEnd) (enter [1, 2, 3 :: Nat])
+-- [1,2,4]
 -- >>> maybe [] (leave . insertHere 9) (enter [1, 2 :: Nat])
+-- [9,1,2]
 -- >>> replaceAt [True] (Node Leaf 5 Leaf) (Node (Node Leaf 1 Leaf) 2 (Leaf :: Tree Nat))
+-- Node (Node Leaf 5 Leaf) 2 Leaf
 -- >>> toList (top (leftmost (Node (Node Leaf 1 Leaf) (2 :: Nat) Leaf, [])))
+-- [1,2]
 -- >>> walk [False] (Node Leaf True Leaf, [])
+-- Just (Leaf,[WentRight Leaf True])
 -- >>> mapTree (* 2) (Node Leaf (3 :: Nat) Leaf)
+-- Node Leaf 6 Leaf
 -- >>> enter [True, False]
+-- Just (ListZip [] True [False])
 -- >>> maybe 9 (position . toEnd) (enter [True, False])
+-- 1
