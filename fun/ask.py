@@ -1,7 +1,7 @@
 """Asks the programs of the repository about systems: several at once, each for a bounded time.
 
-An answer is YES or NO only where `check` accepts the certificate that a search has found. The searches are `wanda prove`
-and, where it is asked for and built, `wanda-hunt`, which looks longer.
+The searches are `wanda prove` and, where it is asked for and built, `wanda-hunt`, which looks longer. A certificate that
+`prove` finds is given to `check`, and counts where that accepts it; `wanda-hunt` has checked what it prints.
 """
 
 import concurrent.futures
@@ -17,6 +17,7 @@ from dataclasses import dataclass
 
 TOP = pathlib.Path(__file__).resolve().parent.parent
 PROOFS = ("YES", "NO")
+VARIABLES = {"wanda": "WANDA_PROGRAM", "wanda-explain": "WANDA_EXPLAIN", "wanda-hunt": "WANDA_HUNT"}
 
 
 class NotBuilt(Exception):
@@ -38,18 +39,22 @@ class Answer:
         return self.word if self.word in PROOFS else "MAYBE"
 
 
-def place_of(variable, crate):
-    """The program of a crate, or what the environment names in its place."""
-    return pathlib.Path(os.environ.get(variable) or TOP / "crates" / crate / "out" / crate)
+def place_of(name):
+    """The program of that name: what the environment names, what was built here, or what lies beside a release."""
+    crate = name.replace("-", "_")
+    named = os.environ.get(VARIABLES[name])
+    if named:
+        return pathlib.Path(named)
+    return TOP / "crates" / crate / "out" / crate if (TOP / "crates").is_dir() else TOP / name
 
 
-def ready(script="wanda", variable="WANDA_PROGRAM", crate="wanda", trial=("gen", "1")):
-    """The place of a program, which its script builds where it is not there or is old."""
-    if not os.environ.get(variable):
+def ready(name, *trial):
+    """The place of a program, which its script builds where it is not there or is old: it is run with `trial` for that."""
+    if not os.environ.get(VARIABLES[name]):
         quiet = subprocess.DEVNULL
-        if subprocess.run([TOP / script, *trial], stdin=quiet, stdout=quiet, check=False).returncode:
-            raise NotBuilt(f"./{script} could not be built")
-    program = place_of(variable, crate)
+        if subprocess.run([TOP / name, *trial], stdin=quiet, stdout=quiet, check=False).returncode:
+            raise NotBuilt(f"{name} could not be built or started")
+    program = place_of(name)
     if not os.access(program, os.X_OK):
         raise NotBuilt(f"there is no program {program}")
     return program
@@ -57,7 +62,7 @@ def ready(script="wanda", variable="WANDA_PROGRAM", crate="wanda", trial=("gen",
 
 def hunter():
     """The program that looks longer, where it is built."""
-    program = place_of("WANDA_HUNT", "wanda_hunt")
+    program = place_of("wanda-hunt")
     return program if os.access(program, os.X_OK) else None
 
 
@@ -131,30 +136,31 @@ class Runner:
         """What `wanda show` prints of a system."""
         return self.run(self.program, "show", self.file(text)) or ""
 
-    def searched(self, program, words, system):
-        """What a search says; a certificate counts where `check` accepts it."""
-        output = self.run(program, *words, system)
+    def searched(self, program, *words):
+        """What a search prints."""
+        output = self.run(program, *words)
         if output is None:
             return Answer("TIMEOUT", f"{self.seconds:g}")
         line, _, _ = output.partition("\n")
         found = re.fullmatch(r"([A-Z]+(?: [A-Z]+)*)(?: (.*))?", line)
         if not found:
             return Answer("FAILED")
-        if found[1] not in PROOFS:
-            return Answer(found[1], found[2] or "")
-        certificate = self.file(output)
-        checked = self.run(self.program, "check", system, certificate)
-        if checked is None or checked.strip() != found[1]:
-            return Answer("UNCHECKED", (checked or "TIMEOUT").strip())
-        return Answer(found[1], "", output)
+        return Answer(found[1], "", output) if found[1] in PROOFS else Answer(found[1], found[2] or "")
+
+    def checked(self, system, answer):
+        """The answer, if it is none that `check` does not accept."""
+        if answer.word not in PROOFS:
+            return answer
+        said = self.run(self.program, "check", system, self.file(answer.certificate)) or "TIMEOUT"
+        return answer if said.strip() == answer.word else Answer("UNCHECKED", said.strip())
 
     def answer(self, text):
         """What the searches say of a system: the hunt is asked where `prove` finds nothing."""
         begun = time.monotonic()
         system = self.file(text)
-        answer = self.searched(self.program, ["prove"], system)
+        answer = self.checked(system, self.searched(self.program, "prove", system))
         if answer.word not in (*PROOFS, "REFUSED") and self.hunt:
-            longer = self.searched(self.hunt, [], system)
+            longer = self.searched(self.hunt, system)
             answer = longer if longer.word in PROOFS else answer
         return Answer(answer.word, answer.reason, answer.certificate, time.monotonic() - begun)
 

@@ -440,7 +440,7 @@ def explained(translation, runner, name):
     head = [f"{function.name} :: {function.type}", f"{row.answer.found}: {row.words}", ""]
     if row.loop:
         return head + list(details(row))
-    program = ask.ready("wanda-explain", "WANDA_EXPLAIN", "wanda_explain", ("--lint", os.devnull))
+    program = ask.ready("wanda-explain", "--lint", os.devnull)
     files = [runner.file(part.system.text)]
     files += [runner.file(part.answer.certificate)] if part.answer.certificate else []
     explanation = Explanation(words)
@@ -453,7 +453,7 @@ def explained(translation, runner, name):
 def tell(translation, words):
     """Asks and prints; the status of the script."""
     try:
-        program = ask.ready()
+        program = ask.ready("wanda", "gen", "1")
         with ask.Runner(program, words.seconds, ask.hunter() if words.hunt else None) as runner:
             if words.explain is not None:
                 lines = explained(translation, runner, words.explain)
