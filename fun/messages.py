@@ -43,7 +43,7 @@ def distance(left, right):
 
 def nearest(name, names):
     """The known name that is most like `name`, where one is near enough to be meant; else None."""
-    best, least = None, max(1, len(name) // 3) + 1
+    best, least = None, (len(name) + 3) // 4 + 1 if len(name) > 2 else 1
     for known in sorted(names):
         if abs(len(known) - len(name)) < least:
             far = distance(name, known)
