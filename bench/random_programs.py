@@ -487,3 +487,281 @@ def well_typed(seed):
     new = [maker.signature() for _ in range(maker.random.randrange(2, 7))]
     maker.functions += new
     return "\n".join([*texts, *(maker.definition(it) for it in new)])
+
+
+# patterns that overlap, and what comes out where equations are read from the top
+
+OVERLAP_DATA = """data P = P0 | P1 | P2
+  deriving (Eq, Ord, Show)
+
+data Q = Q0 | Q1 P | Q2 P Q
+  deriving (Eq, Ord, Show)
+"""
+SHAPES = {
+    "P": [("P0", ()), ("P1", ()), ("P2", ())],
+    "Q": [("Q0", ()), ("Q1", ("P",)), ("Q2", ("P", "Q"))],
+    "Bool": [("False", ()), ("True", ())],
+    "[P]": [("[]", ()), (":", ("P", "[P]"))],
+    "Maybe Q": [("Nothing", ()), ("Just", ("Q",))],
+    "Nat": [("Zero", ()), ("Succ", ("Nat",))],
+    "(P, Q)": [("(,)", ("P", "Q"))],
+}
+FEW = 30  # so many calls of the last function are tried
+
+
+class Uncovered(Exception):
+    """No equation or no alternative is for these values."""
+
+
+def value_text(value):
+    """A value as an expression."""
+    name, parts = value[0], value[1:]
+    if name in ("Zero", "Succ"):
+        count = 0
+        while value[0] == "Succ":
+            count, value = count + 1, value[1]
+        return str(count)
+    return Maker.joined(name, [value_text(it) for it in parts])
+
+
+def number(value):
+    """The number that a value of Nat is."""
+    return 1 + number(value[1]) if value[0] == "Succ" else 0
+
+
+def of_number(count):
+    return ("Succ", of_number(count - 1)) if count else ("Zero",)
+
+
+def matches(pattern, value, found):
+    """Whether a pattern is for a value; what its variables stand for is added to `found`."""
+    kind = pattern[0]
+    if kind == "any":
+        return True
+    if kind == "as":
+        found[pattern[1]] = value
+        return pattern[2] is None or matches(pattern[2], value, found)
+    if kind == "number":
+        return number(value) == pattern[1]
+    return value[0] == pattern[1] and all(matches(it, part, found) for it, part in zip(pattern[2], value[1:]))
+
+
+def pattern_text(pattern):
+    kind = pattern[0]
+    if kind == "any":
+        return "_"
+    if kind == "as":
+        return pattern[1] if pattern[2] is None else f"{pattern[1]}@{pattern_text(pattern[2])}"
+    if kind == "number":
+        return str(pattern[1])
+    return Maker.joined(pattern[1], [pattern_text(it) for it in pattern[2]])
+
+
+def rank(value):
+    """What values are ordered by."""
+    names = [name for shapes in SHAPES.values() for name, _ in shapes]
+    return (names.index(value[0]), *map(rank, value[1:]))
+
+
+TESTS = {
+    "==": lambda left, right: left == right,
+    "/=": lambda left, right: left != right,
+    "<": lambda left, right: rank(left) < rank(right),
+    ">=": lambda left, right: rank(left) >= rank(right),
+}
+
+
+class Overlaps:
+    """Makes functions whose equations overlap, and evaluates them."""
+
+    def __init__(self, seed):
+        self.random = random.Random(seed)
+        self.functions = []  # name, types of the arguments, type of the result, equations
+        self.count = 0
+
+    def new(self):
+        self.count += 1
+        return f"x{self.count}"
+
+    def some_value(self, kind, depth=3):
+        shapes = SHAPES[kind] if depth else SHAPES[kind][:1]
+        name, parts = self.random.choice(shapes)
+        return (name, *(self.some_value(it, depth - 1) for it in parts))
+
+    def pattern(self, kind, depth, names):
+        """A pattern, with its variables and their types in `names`."""
+        choice = self.random.random()
+        if choice < 0.2 or depth == 0:
+            return ("any",)
+        if choice < 0.35:
+            names[self.new()] = kind
+            return ("as", f"x{self.count}", None)
+        if kind == "Nat" and choice < 0.6:
+            return ("number", self.random.randrange(3))
+        name, parts = self.random.choice(SHAPES[kind])
+        built = ("built", name, [self.pattern(it, depth - 1, names) for it in parts])
+        if choice > 0.9:
+            names[self.new()] = kind
+            return ("as", f"x{self.count}", built)
+        return built
+
+    # expressions: each is a text and a function from the values of the variables to a value
+
+    def expression(self, kind, names, depth=2):
+        here = [it for it, other in names.items() if other == kind]
+        choice = self.random.random()
+        if here and choice < 0.4:
+            name = self.random.choice(here)
+            return name, lambda values: values[name]
+        fitting = [it for it in self.functions if it[2] == kind]
+        if fitting and depth and choice < 0.6:
+            return self.call(self.random.choice(fitting), names, depth - 1)
+        if depth and choice < 0.75:
+            return self.conditional(kind, names, depth - 1)
+        value = self.some_value(kind, 2)
+        return value_text(value), lambda values: value
+
+    def call(self, function, names, depth):
+        parts = [self.expression(it, names, depth) for it in function[1]]
+        text = " ".join([function[0], *(it for it, _ in parts)])
+        return f"({text})", lambda values: self.value(function, [it(values) for _, it in parts])
+
+    def conditional(self, kind, names, depth):
+        test, then, other = self.condition(names, depth), self.expression(kind, names, depth), self.expression(kind, names, depth)
+        text = f"(if {test[0]} then {then[0]} else {other[0]})"
+        return text, lambda values: then[1](values) if test[1](values) else other[1](values)
+
+    def condition(self, names, depth=1):
+        """A condition, whose value is a truth value of Python."""
+        choice = self.random.random()
+        if depth and choice < 0.15:
+            inner = self.condition(names, depth - 1)
+            return f"not {inner[0]}" if inner[0][0] == "(" else f"(not {inner[0]})", lambda values: not inner[1](values)
+        if depth and choice < 0.45:
+            left, right = self.condition(names, depth - 1), self.condition(names, depth - 1)
+            if choice < 0.3:
+                return f"({left[0]} && {right[0]})", lambda values: left[1](values) and right[1](values)
+            return f"({left[0]} || {right[0]})", lambda values: left[1](values) or right[1](values)
+        lists = [it for it, kind in names.items() if kind == "[P]"]
+        if lists and choice < 0.6:
+            name = self.random.choice(lists)
+            return f"(null {name})", lambda values: values[name] == ("[]",)
+        kind, sign = self.random.choice([*names.values(), "P"]), self.random.choice(list(TESTS))
+        left, right = self.expression(kind, names, 0), self.expression(kind, names, 0)
+        text = f"({left[0]} {sign} ({right[0]} :: {kind}))"
+        return text, lambda values: TESTS[sign](left[1](values), right[1](values))
+
+    # right sides: texts, and functions that give a value or None where all guards fail
+
+    def side(self, kind, names, sign, indent, depth):
+        choice = self.random.random()
+        if choice < 0.45:
+            return self.guarded(kind, names, sign, indent)
+        if depth and choice < 0.65:
+            return self.case(kind, names, sign, indent, depth - 1)
+        text, value = self.expression(kind, names)
+        return f" {sign} {text}", value
+
+    def guarded(self, kind, names, sign, indent):
+        lines, branches = [], []
+        for _ in range(self.random.randrange(1, 4)):
+            guards, inner = [], dict(names)
+            for _ in range(self.random.randrange(1, 3)):
+                guards.append(self.guard(inner))
+            text, value = self.expression(kind, inner)
+            lines.append(f"| {', '.join(it for it, _ in guards)} {sign} {text}")
+            branches.append(([it for _, it in guards], value))
+
+        def first(values):
+            for guards, value in branches:
+                here = dict(values)
+                if all(it(here) for it in guards):
+                    return value(here)
+            return None
+
+        return under(lines, indent), first
+
+    def guard(self, names):
+        """A guard; one with a pattern adds its variables to `names`, and their values to those that it is given."""
+        if self.random.random() < 0.6:
+            return self.condition(names)
+        kind = self.random.choice(sorted(SHAPES))
+        text, value = self.expression(kind, dict(names))
+        pattern = self.pattern(kind, 2, names)
+        return f"{pattern_text(pattern)} <- ({text} :: {kind})", lambda values: matches(pattern, value(values), values)
+
+    def case(self, kind, names, sign, indent, depth):
+        subject = self.random.choice(sorted(SHAPES))
+        text, value = self.expression(subject, names)
+        lines, branches = [], []
+        for _ in range(self.random.randrange(1, 4)):
+            inner = dict(names)
+            pattern = self.pattern(subject, 2, inner)
+            side, result = self.side(kind, inner, "->", indent + 2, depth)
+            lines.append(f"{pattern_text(pattern)}{side}")
+            branches.append((pattern, result))
+
+        def first(values):
+            chosen = first_of([([pattern], result) for pattern, result in branches], [value(values)], values)
+            if chosen is None:
+                raise Uncovered
+            return chosen
+
+        return f" {sign} case ({text} :: {subject}) of{under(lines, indent)}", first
+
+    # functions
+
+    def function(self, last):
+        """A function; all but the last one have an equation for all that is left."""
+        kinds = [self.random.choice(sorted(SHAPES)) for _ in range(self.random.randrange(1, 4))]
+        result, name = self.random.choice(["P", "Nat", "Q"]), f"f{len(self.functions)}"
+        lines, equations = [f"{name} :: {' -> '.join([*kinds, result])}"], []
+        for _ in range(self.random.randrange(1, 6)):
+            names = {}
+            patterns = [self.pattern(it, 3, names) for it in kinds]
+            side, value = self.side(result, names, "=", 0, 1 if last else 0)
+            lines.append(" ".join([name, *map(pattern_text, patterns)]) + side)
+            equations.append((patterns, value))
+        if not last:
+            text, value = self.expression(result, {}, 0)
+            lines.append(f"{' '.join([name, *('_' for _ in kinds)])} = {text}")
+            equations.append(([("any",) for _ in kinds], value))
+        self.functions.append((name, kinds, result, equations))
+        return "\n".join(lines) + "\n"
+
+    @staticmethod
+    def value(function, arguments):
+        """The value of a call."""
+        found = first_of(function[3], arguments, {})
+        if found is None:
+            raise Uncovered
+        return found
+
+
+def first_of(equations, arguments, values):
+    """The value of the first equation whose patterns and guards are for the arguments, or None."""
+    for patterns, value in equations:
+        here = dict(values)
+        if all(matches(it, argument, here) for it, argument in zip(patterns, arguments)):
+            found = value(here)
+            if found is not None:
+                return found
+    return None
+
+
+def overlapping(seed):
+    """A module, and calls of its last function with their values; None where nothing is for the arguments."""
+    maker = Overlaps(seed)
+    head = "module M where\n\nimport Nat\n"
+    count = maker.random.randrange(1, 4)
+    texts = [head, OVERLAP_DATA, *(maker.function(at == count - 1) for at in range(count))]
+    last = maker.functions[-1]
+    calls = {}
+    for _ in range(FEW):
+        arguments = [maker.some_value(it) for it in last[1]]
+        try:
+            value = value_text(maker.value(last, arguments))
+        except Uncovered:
+            value = None
+        calls[" ".join([last[0], *map(value_text, arguments)])] = value
+    return "\n".join(texts), list(calls.items())
