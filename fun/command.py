@@ -7,6 +7,11 @@ import sys
 import fun
 from fun import messages
 
+try:
+    from fun import tell
+except ImportError:
+    tell = None
+
 STEPS = ("conditions", "copies", "patterns", "unfold")
 
 
@@ -18,6 +23,8 @@ def words_of(arguments):
     parser.add_argument("--all-instances", action="store_true", help="each polymorphic function at own sorts, too")
     for step in STEPS:
         parser.add_argument(f"--no-{step}", action="store_true", help=f"leaves out the step `{step}`")
+    if tell is not None:
+        tell.add_words(parser)
     return parser.parse_args(arguments)
 
 
@@ -42,6 +49,8 @@ def main(arguments):
         for message in refused.messages:
             sys.stderr.write(messages.shown(message, words.file, text))
         return 3
+    if tell is not None and tell.wanted(words):
+        return tell.tell(translation, words)
     for warning in translation.warnings:
         print(f"{words.file}:{warning.line}: {warning.function}: {warning.sentence}", file=sys.stderr)
     if words.out:

@@ -46,7 +46,10 @@ class Symbol:
         self.method = None
         self.words = None
         self.parent = None  # the symbol that this one is a part of, for its name
-        self.template = None  # for copies: the function, and its arguments with None for what is given
+        self.template = None  # for copies: the function, what it is copied for, and the copy's parameters
+        self.extra = []  # for local functions: the outer variables that are its first arguments
+        self.patterns = []  # for choices and bindings: what its arguments are in the program
+        self.looks = False  # for choices and bindings: whether the first argument is what is looked at or bound
         self.recursive = False
 
 
@@ -264,6 +267,20 @@ def unmarked(node):
     """A node without a mark at its top."""
     while isinstance(node, Mark):
         node = node.body
+    return node
+
+
+def unlined(node):
+    """An expression without lines and places: of what the module has not."""
+    if isinstance(node, Mark):
+        return unlined(node.body)
+    if isinstance(node, Fail):
+        return Fail(node.type, (0, 0))
+    node = rebuilt(node, unlined)
+    if isinstance(node, (Let, Unpack)):
+        node.line = 0
+    elif isinstance(node, Switch):
+        node.place = (0, 0)
     return node
 
 

@@ -302,10 +302,7 @@ class Emitter:
         """The line of the program above a rule."""
         if rule.line and rule.line <= len(self.lines):
             return f"# {rule.line}: {self.lines[rule.line - 1].strip()}"
-        owner = rule.symbol
-        while owner.parent is not None:
-            owner = owner.parent
-        return f"# {words_of(owner)}"
+        return f"# {words_of(top_of(rule.symbol))}"
 
     def system(self, symbols):
         """The system of symbols that call no others."""
@@ -372,9 +369,42 @@ def words_of(symbol):
     return f"the function {symbol.function}"
 
 
+# Warnings
+
+
+def warnings_of(program, maker, emitter, printer):
+    """What a reader of the answers has to know, in the order of the lines."""
+    found = set()
+    present = set(emitter.symbols)
+    for owner, line, symbol, patterns in maker.uncovered:
+        if symbol in present and line and top_of(owner).kind != "known":
+            shape = printer.patterns(symbol, patterns)
+            what = "no alternative covers" if symbol.kind in ("case", "let") else "no equation covers"
+            found.add(fun.Warning(line, owner.function, "uncovered", f"{what} `{shape}`: the program stops there with an error"))
+    for owner, line in maker.strict:
+        if owner in present:
+            found.add(fun.Warning(line, owner.function, "strict", "this pattern is matched as soon as its branch is reached; "
+                                  "Haskell waits until a variable of it is needed"))
+    for node, variable, name in program.defaults:
+        found.add(fun.Warning(node.at[0], node.name, "default", f"no use says what `{variable}` is in the type "
+                              f"`{types.shown_scheme(node.scheme)}`: it is taken as `{name}`"))
+    for symbol in emitter.symbols:
+        if symbol.kind in ("function", "local") and symbol.arity == len(symbol.extra) and symbol.recursive:
+            found.add(fun.Warning(symbol.line, symbol.function, "lazy", f"`{symbol.base}` is a value that uses itself: evaluated to "
+                                  "the end it runs for ever, while a lazy program takes the parts that it needs"))
+    return sorted(found, key=lambda one: (one.line, one.function, one.kind, one.sentence))
+
+
+def top_of(symbol):
+    """The function that a symbol belongs to."""
+    while symbol.parent is not None:
+        symbol = symbol.parent
+    return symbol
+
+
 def emit(program, text, options):
     """The translation of a program whose functions are made."""
-    from fun import copies, rules, simplify, unfold
+    from fun import copies, express, rules, simplify, unfold
 
     simplify.simplify_all(program)
     if options.copies:
@@ -383,5 +413,8 @@ def emit(program, text, options):
     if options.unfold:
         unfold.unfold_all(maker.rules)
     emitter = Emitter(program.typed.name, maker.rules, program.roots, text)
+    printer = express.Printer(emitter.names, program.typed.fixities)
     whole = emitter.system(emitter.symbols)
-    return fun.Translation(program.typed.name, whole, emitter.functions(), emitter.origins(), [], emitter.part, str)
+    warnings = warnings_of(program, maker, emitter, printer)
+    return fun.Translation(program.typed.name, whole, emitter.functions(), emitter.origins(), warnings, emitter.part,
+                           printer.text)

@@ -122,6 +122,8 @@ class Program:
             symbol, node, table = self.waiting.pop()
             maker = Maker(self, symbol, table)
             function = maker.function(node, {})
+            if node.binding.known:
+                function.body = core.unlined(function.body)
             self.functions[symbol] = function
             for instance in maker.instances:
                 self.functions[instance.symbol] = core.Function(instance.symbol, instance.parameters, instance.body)
@@ -214,6 +216,7 @@ class Maker:
             instance.parameters = instance.extra + instance.parameters
             instance.symbol.type = arrows([one.type for one in instance.extra], instance.symbol.type)
             instance.symbol.arity += len(instance.extra)
+            instance.symbol.extra = instance.extra
         return function
 
     def definition(self, node, env, table, arity):

@@ -393,7 +393,7 @@ class RuleMaker:
         if len(outcomes) == 1:
             return yes if outcomes.pop() else no
         zero, succ = (Con(info, ()) for info in self.program.nat.constructors)
-        less = Var("n", core.type_of(zero))
+        less = Var(value.base + "'" if isinstance(value, Var) else "n", core.type_of(zero))
         below = yes if ("E" if number == 0 else "L") in holds else no
         if number == 0:
             above = yes if "G" in holds else no
@@ -424,6 +424,7 @@ class RuleMaker:
         if symbol is None:
             self.copies[key_place] = self.copies.get(key_place, 0) + 1
             symbol = self.new_symbol(kind, patterns, body, context, place)
+            symbol.looks = hold is not None
             self.made[form] = symbol
             for variable in patterns:
                 for one in variables_of(variable):
@@ -475,6 +476,7 @@ class RuleMaker:
         line = place[0] or context.line
         symbol = Symbol(f"{kind}{number}", type_, len(patterns), owner.function, kind, line)
         symbol.parent = owner
+        symbol.patterns = list(patterns)
         self.rules[symbol] = []
         return symbol
 

@@ -1111,7 +1111,7 @@ class Typed:
     exports: list
     scope: Scope
     natural: bool  # whether it imports Nat
-    datas: list = field(default_factory=list)
+    fixities: dict = field(default_factory=dict)
 
 
 def imported(module, checker):
@@ -1215,7 +1215,7 @@ def check_module(module):
     exports = exported(module, checker, functions)
     if checker.messages:
         raise Refused(checker.messages)
-    return Typed(module.name, functions, exports, checker.scope, natural)
+    return Typed(module.name, functions, exports, checker.scope, natural, module.fixities)
 
 
 def check_name(checker, one, natural):
