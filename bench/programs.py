@@ -28,7 +28,9 @@ import sys
 import tempfile
 import traceback
 
-import random_programs
+sys.dont_write_bytecode = True
+
+import random_programs  # noqa: E402 (no bytecode is to be left)
 
 TOP = pathlib.Path(__file__).resolve().parent.parent
 sys.path.insert(0, str(TOP))
