@@ -129,7 +129,7 @@ class Parser:
 
     def guarded(self, result):
         """A top-level item; after an error the parse goes on where the next one begins."""
-        columns = list(self.stream.columns)
+        columns, begin = list(self.stream.columns), self.stream.place
         try:
             self.top(result)
             if not self.ended():
@@ -138,6 +138,7 @@ class Parser:
             self.messages.extend(refused.messages)
             self.stream.columns[:] = columns
             self.stream.begins = -1
+            self.stream.place = max(self.stream.place, begin + 1)
             while self.stream.raw().kind != "end" and not self.stream.hidden(self.stream.place):
                 self.stream.place += 1
 
