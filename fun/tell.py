@@ -11,6 +11,7 @@ import re
 import sys
 from dataclasses import dataclass, field
 
+import fun
 from fun import ask, proofs, runs
 
 NOT_BUILT, CUT_OFF = 70, 130
@@ -247,15 +248,10 @@ def asked(runner, system):
     return Part(system, answer, proofs.read_shown(runner.show(system.text)))
 
 
-def whole_system(translation):
-    """The whole system, in the form that `part` has."""
-    return type("Whole", (), {"text": translation.system, "rules": translation.rules})()
-
-
 def reported(translation, runner, jobs):
     """Asks the module, and its functions where that is no YES."""
     functions = translation.functions
-    whole = asked(runner, whole_system(translation))
+    whole = asked(runner, fun.System(translation.system, translation.rules))
     if whole.answer.word == "YES" or not functions:
         words = Words(translation, whole)
         return Report(translation, whole.answer, [row_of(words, it) for it in functions])
