@@ -26,7 +26,7 @@ fn add_doubled(text: &mut Bytes, times: u32) -> Result<(), AllocError> {
 
 #[test]
 fn tells_binders_of_two_types_apart(rt: HostRuntime) -> Result<(), Fail> {
-    let mut table = Table::new(rt.alloc())?;
+    let mut table = Table::new(rt.alloc());
     let of_the_first = add_text(rt.alloc(), &mut table, b"0\\")?;
     let of_the_second = add_text(rt.alloc(), &mut table, b"0/")?;
     let count = table.count();
@@ -39,8 +39,8 @@ fn tells_binders_of_two_types_apart(rt: HostRuntime) -> Result<(), Fail> {
 
 #[test]
 fn shares_equal_parts(rt: HostRuntime) -> Result<(), Fail> {
-    let mut table = Table::new(rt.alloc())?;
-    let mut text = Bytes::new(rt.alloc())?;
+    let mut table = Table::new(rt.alloc());
+    let mut text = Bytes::new(rt.alloc());
     // a tree of size 4,093
     add_doubled(&mut text, 10)?;
     let number = add_text(rt.alloc(), &mut table, text.as_slice())?;

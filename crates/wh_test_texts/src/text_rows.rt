@@ -227,7 +227,7 @@ const PRINTED: &[u8] = b"((nat->o)->list) %65535:(nat->o)\n(\\x:(nat->o).Z[a,x])
 
 #[test]
 fn prints_texts(rt: HostRuntime) -> Result<(), Fail> {
-    let mut out = Bytes::new(rt.alloc())?;
+    let mut out = Bytes::new(rt.alloc());
     add_texts(rt.alloc(), &mut out)?;
     expect_text(&rt, out.as_slice(), PRINTED);
     Ok(())
