@@ -1,12 +1,12 @@
 #!/usr/bin/env python3
-"""Compares the tables of crates in docs/ARCHITECTURE.md and README.md with crates.txt.
+"""Compares the tables of crates in docs/ARCHITECTURE.md with crates.txt.
 
     bench/layers.py                       # tells what differs
-    bench/layers.py --write               # puts the column "stands on" of docs/ARCHITECTURE.md anew
+    bench/layers.py --write               # makes the column "stands on" anew
 
-Each crate has one row in the tables of docs/ARCHITECTURE.md, below those of the crates that it stands on, and one in README's
-table where it is no crate of tests or tools. The column "stands on" has the nearest crates: those of a crate's line in crates.txt
-that no other crate of the line stands on, also by others.
+Each crate has one row in these tables, below the rows of the crates that it stands on. The column "stands on" has
+the nearest crates: those of a crate's line in crates.txt that no other crate of the line stands on, directly or not.
+A table may leave that column out.
 """
 
 import argparse
@@ -16,15 +16,14 @@ import sys
 
 TOP = pathlib.Path(__file__).resolve().parent.parent
 PAGE = TOP / "docs" / "ARCHITECTURE.md"
-README = TOP / "README.md"
-ROW = re.compile(r"^\| (w(?:h_|anda)\w*) \|(.*)\|(.*)\|$", re.M)
-TOOLS = "**Tests and tools**"
+ROW = re.compile(r"^\| (w(?:h_|anda)\w*) \|([^|\n]*)\|(?:([^|\n]*)\|)?$", re.M)
 
 
 def read_crates():
     """The crates of crates.txt, each with those of them in its line."""
     lines = [line.partition("#")[0] for line in (TOP / "crates.txt").read_text().splitlines()]
-    words = {front.split()[0]: behind.split() for front, colon, behind in (line.partition(":") for line in lines) if colon}
+    parts = [line.partition(":") for line in lines]
+    words = {front.split()[0]: behind.split() for front, colon, behind in parts if colon}
     return {name: [it for it in listed if it in words] for name, listed in words.items()}
 
 
@@ -40,7 +39,10 @@ def nearest(crates):
     known = {}
     for name in crates:
         below(crates, name, known)
-    return {name: [it for it in listed if not any(it in known[other] for other in listed)] for name, listed in crates.items()}
+    return {
+        name: [it for it in listed if not any(it in known[other] for other in listed)]
+        for name, listed in crates.items()
+    }
 
 
 def with_column(page, wanted):
@@ -48,22 +50,20 @@ def with_column(page, wanted):
 
     def row(found):
         name, does, old = found.groups()
-        listed = f" {', '.join(wanted[name])} " if wanted.get(name) else " "
-        return f"| {name} |{does}|{listed if name in wanted else old}|"
+        if old is None or name not in wanted:
+            return found[0]
+        listed = f" {', '.join(wanted[name])} " if wanted[name] else " "
+        return f"| {name} |{does}|{listed}|"
 
     return ROW.sub(row, page)
 
 
-def wrongs(page, readme, crates):
+def wrongs(page, crates):
     """What differs, a line each."""
     rows = [found[1] for found in ROW.finditer(page)]
-    tools = {found[1] for found in ROW.finditer(page[page.index(TOOLS) :])}
-    shown = [found[1] for found in ROW.finditer(readme)]
     for name in sorted(set(crates) ^ set(rows)):
         yield f"{name}: in crates.txt or in docs/ARCHITECTURE.md alone"
-    for name in sorted((set(crates) - tools) ^ set(shown)):
-        yield f"{name}: README should have a row for it, or should not"
-    for name in sorted({name for name in rows if rows.count(name) > 1} | {name for name in shown if shown.count(name) > 1}):
+    for name in sorted({name for name in rows if rows.count(name) > 1}):
         yield f"{name}: more than one row"
     for at, name in enumerate(rows):
         late = [it for it in crates.get(name, []) if it in rows[at:]]
@@ -73,10 +73,10 @@ def wrongs(page, readme, crates):
 
 def main():
     parser = argparse.ArgumentParser(description=__doc__, formatter_class=argparse.RawDescriptionHelpFormatter)
-    parser.add_argument("--write", action="store_true", help='put the column "stands on" of docs/ARCHITECTURE.md anew')
+    parser.add_argument("--write", action="store_true", help='make the column "stands on" anew')
     options = parser.parse_args()
     crates, page = read_crates(), PAGE.read_text()
-    told = list(wrongs(page, README.read_text(), crates))
+    told = list(wrongs(page, crates))
     new = with_column(page, nearest(crates))
     if options.write:
         PAGE.write_text(new)

@@ -1,12 +1,13 @@
 #!/usr/bin/env python3
-"""Runs the commands that README.md and docs/GUIDE.md show, and compares what they print with what stands there.
+"""Runs the commands that the pages for users show, and compares what they print with what stands there.
 
     bench/transcripts.py [--write]        # --write: puts there what they print
 
-A block of lines is indented by four spaces. In it a command is a line with `$`, and its output the lines behind it. A
-block below a paragraph that ends with "file `NAME`:" is that file. All is run in one new folder, in which ./wanda,
-./wanda-all, ./wanda-explain and examples are those of this repository. What is shown may also be what a terminal shows,
-where the command says more there. Times, as 0.123, may differ.
+The pages are README.md, docs/TUTORIAL.md and docs/REFERENCE.md. A block of lines is indented by four spaces; a blank
+line before a command begins a new one. In a block a command is a line with `$`, and its output the lines behind it. A
+block below a paragraph that ends with "file `NAME`:" is that file. All commands of a page are run in one new folder,
+in which ./wanda, ./wanda-all, ./wanda-explain, ./wanda-fun and examples are those of this repository. What is shown may
+also be what a terminal shows, where the command says more there. Times, as 0.123, may differ.
 """
 
 import argparse
@@ -20,8 +21,8 @@ import tempfile
 from scripts import screen, terminal_command
 
 TOP = pathlib.Path(__file__).resolve().parent.parent
-PAGES = ("README.md", "docs/GUIDE.md")
-BLOCK = re.compile(r"(?m)(?P<before>^.*\n)?\n(?P<block>(?:^    .*\n|^\n(?=    ))+)")
+PAGES = ("README.md", "docs/TUTORIAL.md", "docs/REFERENCE.md")
+BLOCK = re.compile(r"(?m)(?P<before>^.*\n)?\n(?P<block>(?:^    .*\n|^\n(?=    (?!\$ )))+)")
 FILE = re.compile(r"file `([^`/]+)`:\n$")
 TIME = re.compile(r" +\d+\.\d{3}\b")
 
@@ -89,7 +90,7 @@ def main():
     for page in PAGES:
         text = (TOP / page).read_text()
         with tempfile.TemporaryDirectory(prefix="wanda-transcripts-") as room:
-            for name in ("wanda", "wanda-all", "wanda-explain", "examples"):
+            for name in ("wanda", "wanda-all", "wanda-explain", "wanda-fun", "examples"):
                 (pathlib.Path(room) / name).symlink_to(TOP / name)
             new = settled_page(text, pathlib.Path(room))
         differs |= new != text
