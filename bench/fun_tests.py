@@ -318,7 +318,7 @@ REFUSALS = [
     ("constructor", "f (Jus x) = x", "4:4", "`Jus` is not in scope: is `Just` meant?"),
     ("type name", "data Tree = Leaf\nf :: Tre -> Nat\nf x = Zero", "5:6", "the type `Tre` is not in scope: is `Tree` meant?"),
     ("type of a right side", "f :: Nat -> Bool\nf x = x", "5:7", "`x` (bound in line 5) has the type `Nat`, and the signature of `f` wants `Bool`"),
-    ("type of an argument", "f :: Bool -> Bool\nf x = x\ng = f Zero", "6:7", "`Zero` has the type `Nat`, and argument 1 of `f` (defined in line 4) wants `Bool`"),
+    ("type of an argument", "f :: Bool -> Bool\nf x = x\ng = f Zero", "6:7", "`Zero` has the type `Nat`, and argument 1 of `f` (defined in line 5) wants `Bool`"),
     ("too many arguments", "f :: Nat -> Nat\nf x = x\ng = f Zero Zero", "6:12", "takes 1 argument and no more"),
     ("type of a branch", "f b = if b then Zero else True", "4:27", "has the type `Bool`, and the first branch in line 4 wants `Nat`"),
     ("type of an alternative", "f m = case m of\n  Nothing -> Zero\n  Just x -> [x]", "6:13", "the first alternative in line 5"),
@@ -328,6 +328,8 @@ REFUSALS = [
     ("local signature", "f :: [a] -> [a]\nf xs = go xs\n  where\n    go :: [a] -> [a]\n    go ys = xs", "8:13", "and the signature of `go` wants"),
     ("missing context", "f :: a -> a -> Bool\nf x y = x == y", "5:11", "write it into the context of the signature"),
     ("missing instance", "data T = A | B\nf :: T -> T -> Bool\nf x y = x == y", "6:11", "write `deriving (Eq)`"),
+    ("type that nothing tells", "f :: Bool\nf = [] == []", "5:8", "give a type by `::`"),
+    ("signature within", "f xs = go xs\n  where\n    go :: a -> a\n    go y = xs", "7:12", "and the signature of `go` wants"),
     ("ambiguous type", "f = [] == []", "4:8", "give a type by `::`"),
     ("Int", "f :: Int -> Int\nf x = x", "4:6", "the numbers are those of `Nat`"),
     ("kind", "f :: Maybe -> Nat\nf x = Zero", "4:6", "`Maybe` has 1 type argument, and none is given"),
@@ -343,7 +345,7 @@ REFUSALS = [
     ("operators", "f x y z = x == y == z", "4:18", "bind equally: put parentheses"),
     ("section", "f x = (x + x *)", "4:14", "binds more than what stands before it"),
     ("comment", "f x = x {- oh", "4:9", "has no end"),
-    ("parenthesis", "f x = (x\ng = f", "5:1", "begins in column 1"),
+    ("parenthesis", "f x = (x\ng = f", "5:1", "`)` is wanted behind the expression, before the line"),
     ("layout of a block", "f x = case x of\n    Zero -> x\n   Succ y -> y", "6:4", "begins in column 4, where the lines of the block begin in column 5"),
     ("export", "module M (f, g) where\nf x = x", "1:14", "`g` is exported and not in scope"),
     ("class in a context", "f :: Show a => a -> a\nf x = x", "4:6", "can't stand in a context"),
@@ -430,10 +432,14 @@ class Shapes(unittest.TestCase):
         self.assertEqual(self.rules(text), ["f Zero => Zero;", "f (Succ n') => f n';"])
         self.assertIn("f_case1 False n => f (minus n (Succ Zero));", self.rules(text, conditions=False))
 
+    def test_short_circuit(self):
+        text = "f :: [Bool] -> Bool\nf (x : xs) = x && f xs\nf [] = True"
+        self.assertEqual(self.rules(text), ["f Nil => True;", "f (Cons True xs) => f xs;", "f (Cons False xs) => False;"])
+
     def test_patterns(self):
         text = "f :: [Nat] -> Nat\nf (x : xs) | x > f xs = x\n           | otherwise = f xs\nf [] = 0"
         self.assertIn("f (Cons x xs) => f_case1 (gt x (f xs)) (Cons x xs);", self.rules(text))
-        self.assertIn("f (Cons x xs) => f_case1 (gt x (f xs)) xs x;", self.rules(text, patterns=False))
+        self.assertIn("f (Cons x xs) => f_case1 (gt x (f xs)) x xs;", self.rules(text, patterns=False))
 
     def test_unfold(self):
         text = "f :: [Nat] -> [Nat]\nf (a : b : r) = f (a + b : r)\nf xs = xs\ng x y = f [x, y]"

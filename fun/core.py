@@ -263,6 +263,31 @@ def apply(function, arguments, line=0):
     return App(function, list(arguments))
 
 
+def joined(function, arguments):
+    """A function with arguments, without bindings: a lambda is carried out where no argument is dropped or doubled."""
+    if not arguments:
+        return function
+    if isinstance(function, App):
+        return joined(function.function, function.arguments + arguments)
+    if isinstance(function, Lam):
+        parameter, argument = function.parameters[0], arguments[0]
+        body = Lam(function.parameters[1:], function.body) if function.parameters[1:] else function.body
+        if isinstance(argument, (Var, Con)) or occurrences(body, {parameter}) == 1:
+            return joined(unbound(substituted(body, parameter, argument)), arguments[1:])
+    return App(function, list(arguments))
+
+
+def unbound(node):
+    """A term without bindings: each is a lambda with an argument, carried out as `joined` says."""
+    if isinstance(node, Let):
+        return joined(Lam([node.variable], unbound(node.body)), [unbound(node.value)])
+    if isinstance(node, App):
+        return joined(unbound(node.function), [unbound(one) for one in node.arguments])
+    if isinstance(node, Lam):
+        return Lam(node.parameters, unbound(node.body))
+    return node
+
+
 def unmarked(node):
     """A node without a mark at its top."""
     while isinstance(node, Mark):

@@ -8,6 +8,7 @@ from fun.types import ARROW, LIST, UNIT, shown
 
 KEYWORDS = frozenset(["sort", "fun", "rule"])
 MOST_BYTES = 64
+MOST_ARGUMENTS = 32  # of a symbol, and variables of a rule
 MOST_SORT_SIZE = 60
 SIGN_WORDS = {
     "++": "append", "+": "plus", "*": "times", "-": "minus", "&&": "and", "||": "or", ".": "compose", "$": "apply",
@@ -265,8 +266,14 @@ class Writer:
         """A rule, with the variables of its left side declared."""
         table = self.metas(rule)
         variables = []
+        if len(rule.patterns) > MOST_ARGUMENTS:
+            raise Refused([Message(rule.line or 1, 1, f"`{rule.symbol.function}` would become a symbol with {len(rule.patterns)} "
+                                   f"arguments, and a system has at most {MOST_ARGUMENTS}: put some into a data type")])
         for pattern in rule.patterns:
             variables += [one for one in core.walk(pattern) if isinstance(one, Var) and one not in variables]
+        if len(variables) > MOST_ARGUMENTS:
+            raise Refused([Message(rule.line or 1, 1, f"a rule of `{rule.symbol.function}` would have {len(variables)} variables, and "
+                                   f"a system has at most {MOST_ARGUMENTS} in a rule: use a function for a part of it")])
         declared = ", ".join(f"{table[one]}:{self.names.type(one.type)}" for one in variables)
         left = " ".join([self.names.symbol_names[rule.symbol]] + [self.term(one, table, True) for one in rule.patterns])
         return f"rule {{{declared}}} {left} => {self.term(rule.right, table)};"

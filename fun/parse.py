@@ -63,6 +63,8 @@ class Parser:
         raw = self.stream.raw()
         if self.peek().kind == "end" and raw.kind != "end":
             column = self.stream.columns[-1] if self.stream.columns else 1
+            if raw.column == column:
+                refuse(raw.at, f"{sentence}, before the line that begins with {raw}")
             refuse(raw.at, f"{raw} begins in column {raw.column}, where the lines of the block begin in column {column}: "
                    f"{sentence} before it")
         closed = self.stream.closed
@@ -207,7 +209,7 @@ class Parser:
         token = self.peek()
         if token.text == "qualified":
             refuse(token.at, "qualified names are no part of the language: import the module and hide what is in the way")
-        name = self.type_name("the module that is imported")
+        name = self.take().text if token.kind == "type" else self.type_name("the module that is imported")
         if self.at("qualified", "as"):
             refuse(self.peek().at, "qualified names are no part of the language: import the module and hide what is in the way")
         hides = bool(self.accept("hiding"))

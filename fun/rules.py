@@ -16,7 +16,7 @@ variable (step `conditions`).
 """
 
 from fun import core
-from fun.core import App, Con, Fail, Lam, Let, Mark, Ref, Switch, Symbol, Unpack, Var, apply, is_atom, unmarked
+from fun.core import App, Con, Fail, Lam, Let, Mark, Ref, Switch, Symbol, Unpack, Var, is_atom, joined, unmarked
 from fun.match import usual_name
 from fun.simplify import Simplifier, constructed, numeral_of, reckoned
 
@@ -68,7 +68,12 @@ def replaced(term, variable, value):
         return value
     if isinstance(term, App):
         arguments = [replaced(one, variable, value) for one in term.arguments]
-        return App(term.function, arguments) if any(a is not b for a, b in zip(arguments, term.arguments)) else term
+        function = replaced(term.function, variable, value)
+        same = function is term.function and all(a is b for a, b in zip(arguments, term.arguments))
+        return term if same else App(function, arguments)
+    if isinstance(term, Lam):
+        body = replaced(term.body, variable, value)
+        return term if body is term.body else Lam(term.parameters, body)
     return term
 
 
@@ -210,7 +215,29 @@ class RuleMaker:
         elif isinstance(node, Fail):
             self.uncovered.append((self.owner, node.place[0] or context.line, context.symbol, context.patterns))
         else:
-            self.add(context, self.term(node, context))
+            choice = self.short_circuit(node, context, True)
+            if choice is None:
+                self.add(context, self.term(node, context))
+            else:
+                self.tail_switch(choice, context)
+
+    def short_circuit(self, node, context, in_tail):
+        """`&&` or `||` as a choice, where its right side calls the current function, or its left compares a variable.
+
+        Strict, they would evaluate a recursive call in any case; so programs that end would be said to run for ever.
+        """
+        name, arguments = self.parts(node)
+        if name not in ("&&", "||") or len(arguments) != 2:
+            return None
+        left, right = arguments
+        compares = in_tail and self.options.conditions and self.matchable(left, context)
+        if not compares and not self.calls_itself(right):
+            return None
+        false, true = (Con(info, ()) for info in self.program.bool.constructors)
+        pattern = Switch(left, [], core.type_of(node), (context.line, 0))
+        if name == "&&":
+            return self.switched(left, right, false, pattern)
+        return self.switched(left, true, right, pattern)
 
     def add(self, context, right):
         """A rule."""
@@ -488,6 +515,9 @@ class RuleMaker:
         if isinstance(node, Var):
             return context.table.get(node, node)
         if isinstance(node, App):
+            choice = self.short_circuit(node, context, False)
+            if choice is not None:
+                return self.inner_switch(choice, context)
             function = self.term(node.function, context)
             arguments = [self.term(one, context) for one in node.arguments]
             if isinstance(function, Ref) and function.symbol.known in ("+", "-") and len(arguments) == 2:
@@ -495,7 +525,7 @@ class RuleMaker:
                     short = reckoned(function.symbol.known, *arguments)
                     if short is not None:
                         return short
-            return apply(function, arguments)
+            return joined(function, arguments)
         if isinstance(node, Lam):
             inner = Context(context.symbol, context.patterns + node.parameters, context.table, context.line)
             return Lam(node.parameters, self.term(node.body, inner))

@@ -27,11 +27,12 @@ class Meta:
 class Rigid:
     """A type variable of a signature or of a general type, with the classes that it is in."""
 
-    __slots__ = ("name", "classes")
+    __slots__ = ("name", "classes", "level")
 
     def __init__(self, name, classes=()):
         self.name = name
         self.classes = set(classes)
+        self.level = 0  # how many bindings stand around the signature while its function is checked
 
 
 class Data:
@@ -250,6 +251,8 @@ def bind(meta, type_):
             raise Mismatch(endless=True)
         if isinstance(one, Meta):
             one.level = min(one.level, meta.level)
+        elif isinstance(one, Rigid) and one.level > meta.level:
+            raise Mismatch()
         elif isinstance(one, TCon):
             work.extend(one.arguments)
     meta.ref = type_
@@ -518,7 +521,7 @@ class Checker:
             first = node.clauses[0]
             for clause in node.clauses:
                 reason = why if clause is first or why else f"the first alternative in line {first.at[0]}"
-                self.clause(clause, arrow(type_, wanted), env, reason, f"what {described(node.scrutinee)} is")
+                self.clause(clause, arrow(type_, wanted), env, reason, described(node.scrutinee))
         else:
             self.expect(node, self.infer(node, env), wanted, why)
 
@@ -678,11 +681,16 @@ class Checker:
         self.top_level(one)
         self.level += 1
         saved, self.wanted = self.wanted, []
+        for variable in one.scheme.variables:
+            variable.level = self.level
         for clause in one.clauses:
             self.clause(clause, one.scheme.type, env, f"the signature of `{one.name}`", f"an argument of `{one.name}`")
         self.level -= 1
         found, self.wanted = self.wanted, saved
-        self.close(found, [])
+        unknown = []
+        self.close(found, unknown)
+        for class_, _, at, words in unknown:
+            self.complain(at, f"{words} wants a type in `{class_}` that nothing tells: give a type by `::`")
 
     def close(self, constraints, general):
         """Solves constraints: those on metas that become general are put there, others wait outside."""
@@ -895,6 +903,7 @@ def expand_synonyms(checker, synonyms):
             checker.complained = False
             if len(component) > 1 or number in edges[number]:
                 checker.complain(one.at, f"the type `{one.name}` stands for itself: declare it by `data`", once=False)
+                checker.scope.types[one.name] = Expansion(one.name, [Rigid(name) for name in one.parameters], Meta(0))
                 continue
             variables = {name: Rigid(name) for name in one.parameters}
             type_ = checker.type_of(one.type, variables)

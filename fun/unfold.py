@@ -5,7 +5,7 @@ call that the rule drops would be lost, and one that it doubles would be made tw
 """
 
 from fun import core
-from fun.core import App, Con, Lam, Ref, Var, apply, copied, is_atom
+from fun.core import App, Con, Lam, Ref, Var, copied, is_atom, joined, unbound
 
 MOST_STEPS = 12  # in one right side
 MOST_SIZE = 300
@@ -40,7 +40,7 @@ class Unfolder:
             return Lam(term.parameters, self.run(term.body))
         if not isinstance(term, App):
             return term
-        term = apply(self.run(term.function), [self.run(one) for one in term.arguments])
+        term = joined(self.run(term.function), [self.run(one) for one in term.arguments])
         step = self.step(term) if self.left > 0 else None
         if step is None:
             return term
@@ -59,7 +59,7 @@ class Unfolder:
             if all(matched(one, other, table) for one, other in zip(rule.patterns, term.arguments)):
                 if not self.keeps_calls(rule, table):
                     return None
-                return apply(copied(rule.right, table), term.arguments[count:])
+                return joined(unbound(copied(rule.right, table)), term.arguments[count:])
         return None
 
     def keeps_calls(self, rule, table):
