@@ -85,7 +85,13 @@ class Words:
         origin = self.origins.get(symbol)
         return origin.function if origin else symbol
 
+    def is_own(self, symbol):
+        """Whether a symbol comes from the module, and not from the Prelude or Nat."""
+        origin = self.origins.get(symbol)
+        return origin is None or origin.line > 0
+
     def line(self, rule):
+        """The line of a rule; 0 where it comes from the Prelude or Nat."""
         return self.part.system.rules[rule].line
 
     def term(self, term):
@@ -147,16 +153,18 @@ def joined(things):
 def smaller(words, function):
     """What gets smaller in a function and in those that it calls and that have no row of their own."""
     reached = words.reached(function.symbol)
-    found = {}
+    found, known = {}, False
     for drop in proofs.drops(words.part.answer.certificate):
-        for pair in (words.part.shown.pairs[it] for it in drop.pairs):
+        for pair in (words.part.shown.pairs[it] for it in drop.pairs if words.part.shown.pairs[it].caller in reached):
             name = words.function(pair.caller)
-            if pair.caller in reached and (name == function.name or name not in words.exported):
+            if not words.is_own(pair.caller):
+                known = True
+            elif name == function.name or name not in words.exported:
                 found.setdefault(name, []).append(decrease(words, drop, pair))
     own = found.pop(function.name, None)
     told = [joined(own)] if own else []
     told += [f"in {name}: {joined(things)}" for name, things in found.items()]
-    return "; ".join(told) or "nothing calls itself"
+    return "; ".join(told) or ("only known functions call themselves" if known else "nothing of its own calls itself")
 
 
 # why not
@@ -193,9 +201,9 @@ def who_calls(words, pairs):
         lines.setdefault(key, set()).add(words.line(pair.rule))
     told = []
     for (caller, called), where in lines.items():
-        numbers = ", ".join(str(it) for it in sorted(where))
-        whom = "itself" if caller == called else called
-        told.append(f"{caller} calls {whom} in line{'s' if len(where) > 1 else ''} {numbers}")
+        numbers = ", ".join(str(it) for it in sorted(where - {0}))
+        place = f" in line{'s' if len(where - {0}) > 1 else ''} {numbers}" if numbers else ""
+        told.append(f"{caller} calls {'itself' if caller == called else called}{place}")
     return joined(told)
 
 
@@ -297,7 +305,7 @@ def details(row):
     elif row.calls:
         yield f"{name}: MAYBE, these calls are left."
         for line, text in row.calls:
-            yield f"  line {line:<5}{text}"
+            yield f"  {f'line {line}' if line else 'known':10}{text}"
 
 
 MEANING = {
@@ -403,11 +411,12 @@ class Explanation:
 
     def pair(self, found):
         line = self.words.line(int(found[3]))
-        return f"{found[1]}pair {found[2]}, line {line}: {self.term(found[4])} calls {self.term(found[5])}"
+        place = f", line {line}" if line else ""
+        return f"{found[1]}pair {found[2]}{place}: {self.term(found[4])} calls {self.term(found[5])}"
 
     def rule(self, found):
         line = self.words.line(int(found[2]))
-        return f"{found[1]}line {line}: {self.term(found[3])} = {self.term(found[4])}"
+        return f"{found[1]}{f'line {line}' if line else 'known'}: {self.term(found[3])} = {self.term(found[4])}"
 
     def becomes(self, found):
         return f"{found[1]}{self.term(found[2])} becomes {self.term(found[3])}: {found[4]}"
