@@ -309,17 +309,20 @@ def unlined(node):
     return node
 
 
+CHILDREN = {
+    App: lambda node: [node.function] + node.arguments,
+    Lam: lambda node: [node.body],
+    Mark: lambda node: [node.body],
+    Let: lambda node: [node.value, node.body],
+    Unpack: lambda node: [node.value, node.body],
+    Switch: lambda node: [node.scrutinee] + [body for _, _, body in node.branches],
+}
+
+
 def children(node):
     """The parts of a node."""
-    if isinstance(node, App):
-        return [node.function] + node.arguments
-    if isinstance(node, (Lam, Mark)):
-        return [node.body]
-    if isinstance(node, (Let, Unpack)):
-        return [node.value, node.body]
-    if isinstance(node, Switch):
-        return [node.scrutinee] + [body for _, _, body in node.branches]
-    return []
+    find = CHILDREN.get(type(node))
+    return find(node) if find else []
 
 
 def walk(node):
@@ -328,7 +331,9 @@ def walk(node):
     while stack:
         one = stack.pop()
         yield one
-        stack.extend(children(one))
+        find = CHILDREN.get(type(one))
+        if find:
+            stack.extend(find(one))
 
 
 def bound(node):
@@ -357,7 +362,7 @@ def free_variables(node):
 
 def occurrences(node, variables):
     """How often any of these variables stands in an expression."""
-    return sum(1 for one in walk(node) if isinstance(one, Var) and one in variables)
+    return sum(1 for one in walk(node) if type(one) is Var and one in variables)
 
 
 def rebuilt(node, change):

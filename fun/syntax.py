@@ -215,6 +215,7 @@ class Function:
     signature: Qualified = None
     scheme: object = None
     recursive: bool = False
+    free: set = None  # the names that it uses, once they are wanted
 
     @property
     def arity(self):
@@ -322,37 +323,58 @@ def scope_of(declarations):
 
 def free_names(node):
     """The names of variables that a node uses and does not bind."""
-    if isinstance(node, Var):
-        return {node.name}
-    if isinstance(node, App):
-        names = free_names(node.argument)
-        while isinstance(node.function, App):
-            node = node.function
-            names |= free_names(node.argument)
-        return names | free_names(node.function)
-    if isinstance(node, Lam):
-        return free_names(node.clause)
-    if isinstance(node, Let):
-        return (free_in(node.declarations) | free_names(node.body)) - set(scope_of(node.declarations))
-    if isinstance(node, If):
-        return free_names(node.condition) | free_names(node.yes) | free_names(node.no)
-    if isinstance(node, Case):
-        return free_names(node.scrutinee) | free_in(node.clauses)
-    if isinstance(node, Annotated):
-        return free_names(node.expression)
-    if isinstance(node, Clause):
-        bound = {one.name for pattern in node.patterns for one in pattern_variables(pattern)}
-        return free_names(node.right) - bound
-    if isinstance(node, Right):
-        names = free_in(node.where)
-        for guards, expression in node.alternatives:
-            names |= free_guarded(guards, free_names(expression))
-        return names - set(scope_of(node.where))
-    if isinstance(node, Function):
-        return free_in(node.clauses)
-    if isinstance(node, PatternBinding):
-        return free_names(node.right)
-    return set()
+    find = FREE.get(type(node))
+    return find(node) if find else set()
+
+
+def free_of_application(node):
+    """Those of a function with arguments."""
+    names = free_names(node.argument)
+    while isinstance(node.function, App):
+        node = node.function
+        names |= free_names(node.argument)
+    return names | free_names(node.function)
+
+
+def free_of_let(node):
+    """Those of an expression with declarations."""
+    return (free_in(node.declarations) | free_names(node.body)) - set(scope_of(node.declarations))
+
+
+def free_of_clause(node):
+    """Those of a right side without the variables of the patterns."""
+    bound = {one.name for pattern in node.patterns for one in pattern_variables(pattern)}
+    return free_names(node.right) - bound
+
+
+def free_of_right(node):
+    """Those of a right side with its guards and `where`."""
+    names = free_in(node.where)
+    for guards, expression in node.alternatives:
+        names |= free_guarded(guards, free_names(expression))
+    return names - set(scope_of(node.where))
+
+
+def free_of_function(node):
+    """Those of a function's clauses, found once: nothing changes them."""
+    if node.free is None:
+        node.free = free_in(node.clauses)
+    return set(node.free)
+
+
+FREE = {
+    Var: lambda node: {node.name},
+    App: free_of_application,
+    Lam: lambda node: free_names(node.clause),
+    Let: free_of_let,
+    If: lambda node: free_names(node.condition) | free_names(node.yes) | free_names(node.no),
+    Case: lambda node: free_names(node.scrutinee) | free_in(node.clauses),
+    Annotated: lambda node: free_names(node.expression),
+    Clause: free_of_clause,
+    Right: free_of_right,
+    Function: free_of_function,
+    PatternBinding: lambda node: free_names(node.right),
+}
 
 
 def free_in(nodes):
