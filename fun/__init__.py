@@ -17,6 +17,7 @@ The way through the modules, in order:
 - emit: names, and the text.
 """
 
+import gc
 from dataclasses import dataclass, field
 
 from fun.messages import Message, Refused
@@ -133,7 +134,13 @@ def translate(text, path="", options=Options()):
     """
     from fun import emit, instances, parse, types  # the modules of the way, when they are wanted
 
-    module = parse.parse_module(text)
-    typed = types.check_module(module)
-    program = instances.make_program(typed, options)
-    return emit.emit(program, text, options)
+    collects = gc.isenabled()
+    gc.disable()  # trees are many and live to the end; looking through them again and again takes a fifth of the time
+    try:
+        module = parse.parse_module(text)
+        typed = types.check_module(module)
+        program = instances.make_program(typed, options)
+        return emit.emit(program, text, options)
+    finally:
+        if collects:
+            gc.enable()

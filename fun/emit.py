@@ -189,9 +189,8 @@ def types_in(term, found):
     """Puts the sorts of all parts of a term into a table."""
     for one in core.walk(term):
         if isinstance(one, (Var, Con)):
-            sorts_of_type(one.type, found)
-        elif isinstance(one, Ref):
-            sorts_of_type(one.symbol.type, found)
+            if one.type not in found:
+                sorts_of_type(one.type, found)
         elif isinstance(one, Lam):
             for parameter in one.parameters:
                 sorts_of_type(parameter.type, found)
@@ -287,6 +286,7 @@ class Emitter:
         self.rules = rules
         self.roots = roots
         self.lines = text.split("\n")
+        self.sorts_by_symbol = {}
         self.symbols = reachable([symbol for _, symbol in roots], rules)
         self.sorts = self.sorts_of(self.symbols)
         self.names = Names(self.sorts, self.symbols)
@@ -298,12 +298,20 @@ class Emitter:
         """The sorts of symbols and of their rules."""
         found = {}
         for symbol in symbols:
-            sorts_of_type(symbol.type, found)
-            for rule in self.rules.get(symbol, ()):
-                for pattern in rule.patterns:
-                    types_in(pattern, found)
-                types_in(rule.right, found)
+            if symbol not in self.sorts_by_symbol:
+                self.sorts_by_symbol[symbol] = self.sorts_of_symbol(symbol)
+            found.update(self.sorts_by_symbol[symbol])
         return closed_sorts(found)
+
+    def sorts_of_symbol(self, symbol):
+        """The sorts of one symbol and of its rules."""
+        found = {}
+        sorts_of_type(symbol.type, found)
+        for rule in self.rules.get(symbol, ()):
+            for pattern in rule.patterns:
+                types_in(pattern, found)
+            types_in(rule.right, found)
+        return found
 
     def comment(self, rule):
         """The line of the program above a rule."""

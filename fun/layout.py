@@ -125,6 +125,11 @@ class Stream:
 
     def peek(self, ahead=0):
         """The token here, or one further on in the same item; an end where the layout ends the item before it."""
+        if not ahead:
+            token = self.tokens[self.place]
+            if token.first and self.hidden(self.place):
+                return Token("end", "", token.line, token.column, False)
+            return token
         last = min(self.place + ahead, len(self.tokens) - 1)
         for place in range(self.place, last + 1):
             if self.hidden(place):
