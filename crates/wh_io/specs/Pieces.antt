@@ -20,8 +20,9 @@ answer_of Whole = Ok End
 answer_of TooLong = Err fault.TooLong
 answer_of Failed = Err fault.Failed
 
--- the first answers of a file whose bytes are told, where so many were given before: bytes are those that come next;
--- the end comes where all were given; the file is too long only where it has more bytes than the limit
+-- one answer of a reader of pieces about a file whose bytes are told, where `given` of its bytes were given before:
+-- bytes are the next ones; the end comes where all were given; the file is too long only where it has more bytes than
+-- the limit
 abbrev pub GivesPiece : List ℕ → ℕ → ℕ → List ℕ → Result Next ReadFault → Type 0
 GivesPiece file limit given into (Ok (Bytes n)) = (take n into ≡ take n (drop given file)) × (given + n ≤ length file)
 GivesPiece file limit given into (Ok End) = length file ≤ given

@@ -7,9 +7,9 @@ use wh_types::List;
 pub enum Letter {
     /// `=`: the trees are the same.
     Same,
-    /// `l`: both are abstractions over one type; by the bodies.
+    /// `l`: the two trees are abstractions over one type; by the bodies.
     Lam,
-    /// `m`: both have the same head, which is no symbol; by the arguments, some of which get smaller.
+    /// `m`: the two trees have the same head, which is no symbol; by the arguments, some of which get smaller.
     Mono,
     /// `s`: by an argument on the left that is at least the right tree.
     Sub,

@@ -23,7 +23,8 @@ pub fn steps_are_filtered_steps()
         → Typed S [] [] t a → Step rules t u → Many (StepOver (OrderRoot F prec)) (filtered_term S Φ t) (filtered_term S Φ u) }
 {}
 
-/// So a step in an argument of a call.
+/// A step in an argument of a well-typed call is steps of the path order and of beta between the calls' extended and
+/// filtered trees.
 pub fn steps_in_calls_are_filtered_steps()
     ensures { (S F : Symbols) (Φ : ℕ → Filter) (prec : ℕ → ℕ) (rules : List RewriteRule) (f : ℕ) (ts us : List Tm) (cs : List Ty)
         → AreOriented S F Φ prec rules → AllTyped S [] [] (tms_of ts) cs → StepsIn (Step rules) ts us

@@ -8,7 +8,7 @@ use Rattle.wh_order_extended.specs.Kinds.{type_at, out_at, codomain}
 use Rattle.wh_order_trees.specs.declared.tree.Tree.{Tree, Row_of-Tree, end_of-Tree, more_of-Tree}
 use Rattle.wh_order_trees.specs.declared.tree.Tree.TheVariants.{Bound, Free, Meta', Sym', Mark', Lam', Apply'}
 
--- the type of a spine with so many arguments, where its head has this type
+-- the type of a spine with n arguments, where its head has this type
 abbrev pub spine_type : Ty → ℕ → Ty
 spine_type a zero = a
 spine_type a (suc n) = spine_type (codomain a) n

@@ -46,7 +46,7 @@ abbrev pub results_of : Option Contractum → List Tm
 results_of None = []
 results_of (Some c) = result_of c ∷ []
 
--- the same of parts that there may be
+-- the parts are ready, where there are any
 abbrev pub AreReady : Option Contractum → Type 0
 AreReady None = Unit {0}
 AreReady (Some c) = IsReady c

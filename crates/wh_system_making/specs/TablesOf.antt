@@ -4,7 +4,7 @@ use Rattle.wh_system.specs.Systems.{SystemData}
 use Rattle.wh_system_making.specs.declared.resolving.NameTables.{NameTables}
 
 pub record AreTablesOf (d : SystemData) (tables : NameTables) : Type 0 where
-  -- those of its sorts
+  -- the names of its sorts
   pub sorts : tables.sorts ≡ d.sort_names
-  -- those of its symbols
+  -- the names of its symbols
   pub funs : tables.funs ≡ d.fun_names

@@ -9,7 +9,7 @@ pub record Test : Type 0 where
   pub fails : Bool
   pub fault : SystemFault
 
--- the fault where it fails, and else what comes after it
+-- the fault where the test fails, and else the rest
 abbrev pub first_of : Bool → SystemFault → Option SystemFault → Option SystemFault
 first_of true fault rest = Some fault
 first_of false fault rest = rest

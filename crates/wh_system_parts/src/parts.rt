@@ -1,4 +1,4 @@
-//! What a system text says, before its names are looked up.
+//! The parts of a system text: its declarations and rules, before their names are looked up. A reader makes them.
 
 use wh_text::{Name, RawTerm, RawType, RawTypes};
 use wh_types::List;
@@ -17,7 +17,7 @@ pub struct RawName {
 pub struct RawFun {
     /// Its name.
     pub name: RawName,
-    /// Its type.
+    /// The type of the symbol.
     pub kind: RawType,
 }
 
@@ -26,9 +26,9 @@ pub struct RawFun {
 pub struct RawMeta {
     /// Its name.
     pub name: RawName,
-    /// The types in its brackets.
+    /// The types in its brackets, which are those of its arguments.
     pub args: RawTypes,
-    /// The type behind them.
+    /// The type behind the brackets, which its applications have.
     pub result: RawType,
 }
 
@@ -50,7 +50,7 @@ pub struct RawRule {
     pub left: RawTerm,
     /// The right side.
     pub right: RawTerm,
-    /// The offset of its keyword.
+    /// The offset of the keyword `rule`.
     pub at: u32,
 }
 

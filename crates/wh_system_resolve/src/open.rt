@@ -25,7 +25,7 @@ pub fn check_open(side: &RawTerm) -> Result<(), SystemFault>
     }
 }
 
-// The same of terms, one after another.
+// Whether none of the terms has a free variable; the fault is at the first one.
 #[cycle(open)]
 #[tactic(auto, using(wh_system_parts::proofs::FaultLemmas::first_fault_append, wh_system_parts::proofs::RawTerms::left_next, wh_system_parts::proofs::RawTerms::left_none))]
 fn check_open_each(items: &RawTerms) -> Result<(), SystemFault>

@@ -75,7 +75,8 @@ pub fn act_under<R: Replace>(
     }
 }
 
-// The same for each of the arguments of a meta-variable.
+// Puts the trees of `by` for the variables of each argument of a meta-variable, `depth` binders below the place where
+// `by` speaks.
 #[cycle(act)]
 #[tactic(auto, using(crate::proofs::WalkLemmas::acts_push, crate::proofs::WalkLemmas::acts_none))]
 fn act_each<R: Replace>(
