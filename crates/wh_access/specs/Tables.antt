@@ -29,7 +29,7 @@ LeadsIn demands s t = (b : Bool) × InTables demands (record { from = s; to = t;
 abbrev pub LeadsStrictlyIn : Demands → ℕ → ℕ → Type 0
 LeadsStrictlyIn demands s t = InTables demands (record { from = s; to = t; strict = true })
 
--- the same among the sorts below n
+-- a demand in the tables leads from s to t, which are sorts below n, and a strict one does
 abbrev pub LeadsBelow : Demands → ℕ → ℕ → ℕ → Type 0
 LeadsBelow demands n s t = (s < n) × (t < n) × LeadsIn demands s t
 

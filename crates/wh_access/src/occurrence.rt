@@ -19,7 +19,7 @@ pub fn occurs(meta: u32, term: &Term) -> bool
     }
 }
 
-// The same of the terms of a list.
+// Whether the meta-variable of that number occurs in one of the terms of the list.
 #[cycle(occurrence)]
 fn occurs_in(meta: u32, items: &Terms) -> bool
     ensures { IsTrue result ↔ OccursIn meta (tms items.now) }

@@ -4,7 +4,8 @@ use Rattle.std.specs.Prelude.{ℕ, zero, suc, ◌+◌, ◌≤◌, ◌<◌, ◌==
 use Rattle.wh_poly.specs.Polynomials.{Polynomial, zero_poly, plus, Factors, no_factors, times, Arguments, no_arguments, argument}
 use Rattle.wh_hopoly.specs.Covers.{AtLeast}
 
--- so many units of a monomial on the left, counted from 0, go to one on the right (ours)
+-- `amount` units of the monomial number `from` on the left go to the monomial number `to` on the right, both counted
+-- from 0 (ours)
 pub record Transfer : Type 0 where
   pub from : ℕ
   pub to : ℕ

@@ -30,8 +30,8 @@ pub struct Symbol {
 pub struct Move {
     /// The monomial on the left, counted from 0.
     pub from: u32,
-    /// The monomial on the right.
+    /// The monomial on the right, counted from 0.
     pub to: u32,
-    /// How many units.
+    /// How many units are moved.
     pub amount: u128,
 }

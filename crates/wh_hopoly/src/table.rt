@@ -15,9 +15,9 @@ use wh_types::SimpleType;
 /// The readings of symbols by their numbers.
 #[derive(Clone, Copy)]
 pub enum Table<'a> {
-    /// Those of these symbols.
+    /// The readings of these symbols.
     Alone(&'a [Symbol]),
-    /// Those of these symbols, and then a function of this type and polynomial.
+    /// The readings of these symbols, and behind them a function of this type and polynomial.
     With(&'a [Symbol], &'a SimpleType, &'a Poly),
 }
 
@@ -38,7 +38,7 @@ pub fn kind_of<'a>(table: &'a Table<'a>, symbol: u32) -> &'a SimpleType
     }
 }
 
-/// Its polynomial.
+/// The polynomial of the symbol.
 pub fn polynomial_of<'a>(table: &'a Table<'a>, symbol: u32) -> &'a Poly
     requires { IsKnown (readings table.now) symbol }
     ensures { poly result.now ≡ (interpretation_at (readings table.now) symbol).polynomial }

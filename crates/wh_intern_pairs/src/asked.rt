@@ -1,4 +1,4 @@
-//! What was asked last of two numbers.
+//! The question about two numbers that was asked last, with its answer. It saves a search where it is asked again.
 
 /// Whether the tree of the one number is a proper part of that of the other, as it was asked last: pairs of one rule
 /// mostly have the same chosen arguments.

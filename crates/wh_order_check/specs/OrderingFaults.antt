@@ -106,8 +106,8 @@ module _ (T : TaskData) (D : FilteringData) (E : Evidence Inference) where
   abbrev pub IsFirstWeakPair : ℕ → Type 0
   IsFirstWeakPair n = IsFirstPairFault strict_lines weak_lines T E.of_pairs E.drop n tt
 
-  -- the first thing wrong: a filter, the numbers of lines, the list of dropped pairs; then sides that are too wide,
-  -- those of the rules in order and of the pairs of the set in order; then bad inferences, in this order too; then a
+  -- the first thing wrong: a filter, the numbers of lines, or the list of dropped pairs; then sides that are too wide,
+  -- first of the rules in order and then of the pairs of the set in order; then bad inferences, in that order; then a
   -- dropped pair that does not shrink (ours)
   abbrev pub IsFirstOrderingFault : OrderingFault → Type 0
   IsFirstOrderingFault (BadFilter f false) = IsFirstImproper T.symbols D f

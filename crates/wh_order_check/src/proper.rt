@@ -68,7 +68,7 @@ fn is_proper(kind: &SimpleType, filter: &Filter) -> bool
     }
 }
 
-// Whether the places, which are counted from 1, are strictly increasing and at most so many.
+// Whether the places, which are counted from 1, are strictly increasing and at most `arity`.
 fn are_increasing(places: &[u32], arity: u32) -> bool
     ensures { IsTrue result ↔ (All (λ n. 0 < n) places.now × IncreasingFrom 0 arity (map (λ n. n - 1) places.now)) }
 {

@@ -34,7 +34,8 @@ letter_with n =
     else Meta
 
 module _ (F : Symbols) (prec : ℕ → ℕ) (M : List Declared) where
-  -- by this letter at this place the task is shown with so many entries in all, nested at most `room` deep
+  -- by this letter at this place an inference shows the task, with the choice's count of entries, nested at most `room`
+  -- deep
   abbrev pub IsBy : ℕ → Task → Choice → Type 0
   IsBy room k c = (d : ℕ) × (b : ℕ) × (ks : List Task) × (room ≡ suc d) × (tasks_by F prec M k (letter c.letter) c.place ≡ Some ks)
       × AreShown F prec M d ks b × (c.count ≡ suc b)
@@ -83,7 +84,7 @@ AreLeastInferences D room gs (Some is) = (w : World) → AreGoalsOver (length D.
 abbrev pub written_place : Choice → ℕ
 written_place c = elim c.letter [ Mono ↦ 0 | _ ↦ c.place ]
 
--- the choice by this letter at this place whose parts have so many entries, where that makes fewer than 2^32
+-- the choice by this letter at this place whose parts have n entries; None where n + 1 is not below 2^32
 abbrev pub IsOneMore : Letter → ℕ → Option ℕ → Option Choice → Type 0
 IsOneMore l place None r = r ≡ None
 IsOneMore l place (Some n) r =

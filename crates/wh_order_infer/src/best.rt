@@ -92,7 +92,7 @@ fn choice_at(
     }
 }
 
-// The choice whose parts have so many entries.
+// The choice whose parts have this number of entries, if there is one and it fits in 32 bits with one more.
 fn one_more(letter: Letter, place: u32, parts: Option<u32>) -> Option<Choice>
     ensures { IsOneMore letter place parts result }
 {

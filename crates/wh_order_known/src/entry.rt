@@ -3,7 +3,7 @@
 use wh_order::Claim;
 use wh_order_trees::Tree;
 
-/// The least number of entries that shows a goal, nested at most so deep.
+/// The least number of entries of an inference that shows a goal and nests at most `room` deep.
 #[derive(Drop)]
 pub struct Entry {
     /// What is claimed.

@@ -52,7 +52,7 @@ fn is_above(set: &PairSet, number: u32) -> bool
     }
 }
 
-/// The set of what is not dropped.
+/// The pairs of the set that are not dropped.
 pub fn kept(alloc: Global, set: &PairSet, drop: &[u32]) -> Result<PairSet, AllocError>
     ensures { IfOk result (IsSetOf (IsKept set.now drop.now)) }
 {

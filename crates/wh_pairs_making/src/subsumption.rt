@@ -81,7 +81,7 @@ fn are_declared_alike(a: &Metas, b: &Metas, term: &Term) -> bool
     }
 }
 
-// The same for the terms of a list.
+// Whether each meta-variable that occurs in one of the terms is declared alike.
 #[cycle(alike)]
 fn all_declared_alike(a: &Metas, b: &Metas, items: &Terms) -> bool
     ensures { IsTrue result ↔ ((z : ℕ) → OccursIn z (tms items.now)

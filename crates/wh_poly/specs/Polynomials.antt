@@ -96,7 +96,7 @@ abbrev pub OrderedFactors : Factors → Type 0
 OrderedFactors no_factors = Unit {0}
 OrderedFactors (times x ps us) = FactorBefore x ps us × OrderedFactors us
 
--- what is asked of a normal polynomial, but for its scope and its arguments (ours)
+-- a polynomial is in order: what `Normal` says of it, but for its scope and its arguments (ours)
 abbrev pub Ordered : Polynomial → Type 0
 Ordered zero_poly = Unit {0}
 Ordered (plus c us p) = 1 ≤ c × OrderedFactors us × MonomialBefore us p × Ordered p

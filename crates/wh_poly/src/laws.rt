@@ -18,12 +18,12 @@ pub fn products_are_normal()
     ensures { (scope : List Ty) (p q : Polynomial) → Normal scope p → Normal scope q → Normal scope (multiply p q) }
 {}
 
-/// In a sum of normal polynomials their order does not matter.
+/// Two normal polynomials have the same sum in either order.
 pub fn sums_commute()
     ensures { (scope : List Ty) (p q : Polynomial) → Normal scope p → Normal scope q → sum_poly p q ≡ sum_poly q p }
 {}
 
-/// Nor does it matter which are added first.
+/// Three normal polynomials have the same sum whichever two are added first.
 pub fn sums_associate()
     ensures { (scope : List Ty) (p q r : Polynomial) → Normal scope p → Normal scope q → Normal scope r
         → sum_poly (sum_poly p q) r ≡ sum_poly p (sum_poly q r) }

@@ -28,7 +28,7 @@ pub fn stands_not_after(atom: &Atom, rest: &[Atom]) -> bool
     }
 }
 
-/// Whether each monomial stands before the next; no claim where it does not answer yes.
+/// Whether each monomial stands before the next. Only the answer yes is claimed.
 pub fn is_ascending(p: &Poly) -> bool
     ensures { IsTrue result → Sorted (poly p.now) }
 {

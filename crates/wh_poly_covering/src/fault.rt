@@ -25,14 +25,14 @@ pub enum CoveringFault {
     Rule {
         /// The rule.
         rule: u32,
-        /// What it is.
+        /// What is wrong with the line.
         fault: LineFault,
     },
     /// What is wrong with the line of this pair.
     Pair {
         /// The pair.
         pair: u32,
-        /// What it is.
+        /// What is wrong with the line.
         fault: LineFault,
     },
 }

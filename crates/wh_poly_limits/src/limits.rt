@@ -13,7 +13,7 @@ use wh_types::Or;
 
 /// The greatest weight of a value.
 pub const MAX_WEIGHT: u32 = 65_536;
-/// How deep its arguments may nest.
+/// How deep the arguments of a value may nest.
 pub const MAX_NESTING: u32 = 400;
 
 /// Whether the value is within the limits, or the limit that it exceeds.
@@ -27,7 +27,7 @@ pub fn check_limits(p: &Poly) -> Result<(), Excess>
     }
 }
 
-/// The value, if it is within the limits.
+/// The value, where it is within the limits; else the limit that it exceeds.
 pub fn tested(value: Poly) -> Result<Poly, Or<Excess>>
     ensures ok { IfOk result (λ r. (poly r ≡ poly value) × (Exceeds (poly r) → ⊥)) }
     ensures fault { IfBecause result (λ e. ExceedsAs e (poly value)) }

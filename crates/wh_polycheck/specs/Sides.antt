@@ -70,7 +70,7 @@ abbrev pub RuleIsCovered : List Interpretation → RewriteRule → Type 0
 RuleIsCovered symbols r =
     (ms : List Transfer) × IsCover (side_polynomial symbols r.metas r.left) (side_polynomial symbols r.metas r.right) ms
 
--- so it is for every rule
+-- moves show for every rule that its left side is at least its right side
 abbrev pub RulesAreCovered : List Interpretation → List RewriteRule → Type 0
 RulesAreCovered symbols rules = (r : RewriteRule) → Contains rules r → RuleIsCovered symbols r
 

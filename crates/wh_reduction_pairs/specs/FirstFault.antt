@@ -16,7 +16,7 @@ pub record Blaming (Line Fault : Type 0) : Type 1 where
 abbrev pub AreBadLines : {Line : Type 0} → TaskData → Evidence Line → Type 0
 AreBadLines T E = (length E.of_rules ≢ length T.covered) ⊎ (length E.of_pairs ≢ length T.set)
 
--- what is asked before the first line is looked at: the numbers of lines, and the list of dropped pairs
+-- what is tested before the first line is looked at: the numbers of lines, and the list of dropped pairs
 pub record AreCounted {Line : Type 0} (T : TaskData) (E : Evidence Line) : Type 0 where
   pub rule_count : length E.of_rules ≡ length T.covered
   pub pair_count : length E.of_pairs ≡ length T.set

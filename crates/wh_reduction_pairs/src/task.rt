@@ -1,4 +1,4 @@
-//! A set of dependency pairs, and what is to be shown of it.
+//! Tasks: a set of dependency pairs, and the rules and pairs that must not grow so that some pairs can be dropped.
 
 ghost use Rattle.std.specs.Prelude.{◌≡◌, IfOk, length};
 ghost use Rattle.wh_system.specs.SystemView.{system_data};
