@@ -45,7 +45,7 @@ children (subterm args drop) = 1
 children (interpretations usable funs marks rules pairs drop) = 1
 children (order funs marks rules pairs drop) = 1
 
--- the nodes are so many trees, one behind the other, in each a node before its children's trees
+-- the nodes are k trees, one behind the other, in each a node before its children's trees
 abbrev pub Preorder : ℕ → List Node → Type 0
 Preorder zero [] = Unit {0}
 Preorder zero (x ∷ rest) = ⊥

@@ -1,4 +1,4 @@
-//! Names and numbers, byte by byte.
+//! Names and numbers of a certificate, byte by byte: where each may begin and go on, within its limit.
 
 ghost use Rattle.std.specs.Prelude.{◌≡◌, ◌+◌, ◌-◌, ◌*◌, ◌<◌, ◌&&◌, nat_lt, [], ◌∷◌, ◌++◌, true, false, length, IfOk, OnOk, MatchOption};
 ghost use Rattle.wh_types.specs.Limits.{longest_name};
@@ -13,7 +13,7 @@ use wh_types::Bytes;
 /// The greatest number of a certificate.
 const GREATEST: u32 = 65_535;
 
-/// The letters of a name are that many at most.
+/// The greatest number of letters of a name.
 const LONGEST_NAME: usize = 64;
 
 /// The letters of a name so far, which are a name themselves.

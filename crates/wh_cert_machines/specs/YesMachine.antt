@@ -212,7 +212,7 @@ lines_led usable (begins x) = on (word (line_rest x) (to_line usable x))
 lines_led usable (drops x) = on (word (codes "rop") (to_list (dropped usable x)))
 lines_led usable l.refused = refused
 
--- the same of a node of a path order
+-- the list of dropped pairs, behind all other lines of a node of a path order
 abbrev pub order_dropped : orders.Lines → Listed
 order_dropped (in_funs funs) = of_order funs [] [] []
 order_dropped (in_marks funs marks) = of_order funs marks [] []

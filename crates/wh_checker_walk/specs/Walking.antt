@@ -70,7 +70,7 @@ IsWhole d ps a c rest = (rest ≡ []) × Accepts d ps c a
 abbrev pub IsBlamed : SystemData → List PairData → CheckFault → State
 IsBlamed d ps f c rest = IsFirstFault with_limits d ps c f
 
--- so is that of a NO certificate
+-- the fault of a NO certificate is the first, whatever comes
 abbrev pub IsRefused : SystemData → NoFault → State
 IsRefused d f c rest = claims.IsFirstFault d c f
 

@@ -1,4 +1,4 @@
-//! Where a walk through a certificate is, and where an item leads from there.
+//! Where the check of a certificate is between two items, and where the next item leads.
 
 ghost use Rattle.std.specs.Prelude.{◌≡◌, List, ℕ};
 ghost use Rattle.wh_types.specs.Outcome.{MatchOr};
@@ -29,7 +29,7 @@ use wh_types::Or;
 /// What a walk keeps of the items so far. It is moved at each item, so large parts stand behind a box.
 #[derive(Drop)]
 pub enum Place {
-    /// There was none.
+    /// No item was taken.
     Before,
     /// At the nodes of a YES certificate.
     Nodes(Box<Nodes>),
@@ -39,9 +39,9 @@ pub enum Place {
     Puts(Box<Puts>),
     /// The first fault was found.
     Blamed(CheckFault),
-    /// They were all, and there is no fault.
+    /// The items were all, and there is no fault.
     Whole(Accepted),
-    /// Memory was wanting.
+    /// There was no memory to go on.
     Lost,
 }
 

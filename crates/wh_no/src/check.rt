@@ -32,7 +32,7 @@ pub struct AcceptedNo {
     pub steps: u32,
 }
 
-/// The term that a raw term stands for, if it fits. The fault is that there is none.
+/// The term that a raw term stands for, if it fits; the fault says that there is no such term.
 pub fn check_term(
     alloc: Global,
     system: &System,

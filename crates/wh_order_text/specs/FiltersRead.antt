@@ -1,4 +1,4 @@
--- What it says of bytes where the reader of filters is led by them.
+-- What the place to which bytes lead the reader of filters says of these bytes.
 use Rattle.std.specs.Prelude.{ℕ, ◌≡◌, List, [], ◌∷◌, ◌++◌}
 use Rattle.wh_text.specs.Chars.{line_feed}
 use Rattle.wh_order_inference.specs.FilterText.{WrittenFilter, put_filter, FilterFits}

@@ -11,7 +11,7 @@ abbrev pub at_nothing : (A : Ty) → Sem A → ℕ
 at_nothing (sort s) n = n
 at_nothing (A ⇒ B) f = at_nothing B (f (nothing A))
 
--- the value that is a constant and so many times the sum of its arguments, each taken where its own arguments are 0
+-- the value that is the constant c and k times the sum of its arguments, each taken where its own arguments are 0
 -- (ours)
 abbrev pub linear : (A : Ty) → ℕ → ℕ → Sem A
 linear (sort s) c k = c

@@ -6,8 +6,8 @@ ghost use Rattle.wh_poly_growth.specs.Weights.{constant_at, factor_at, number, p
 
 use wh_poly::{Atoms, Poly, Polys};
 
-/// A variable's value: the constant, and so many times the sum of its arguments, each taken where its own arguments are
-/// 0.
+/// A variable's value: the constant, and `factor` times the sum of its arguments, each taken where its own arguments
+/// are 0.
 #[derive(Clone, Copy)]
 pub struct Weight {
     /// The constant.

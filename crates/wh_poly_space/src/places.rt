@@ -50,7 +50,7 @@ pub fn places_of(alloc: Global, scope: &[SimpleType]) -> Result<Vec<Place>, Allo
     Ok(places)
 }
 
-// The start of a scope with so many variables of a sort and so many functional ones.
+// The start of the walk through a scope with `sorts` variables of a sort and `functional` functional ones.
 fn first_walk(sorts: usize, functional: usize) -> Walk
     ensures { (Γ : List Ty) → sorts ≡ length (sort_variables Γ) → functional ≡ length (functional_variables Γ) → IsWalk Γ 0 result }
 {

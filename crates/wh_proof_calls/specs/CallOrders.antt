@@ -14,7 +14,7 @@ pub record Orders (A : Type 0) : Type 1 where
   pub less : A → A → Type 0
   pub not_more : A → A → Type 0
 
--- those of the numbers
+-- the two orders of the numbers
 abbrev pub by_numbers : Orders ℕ
 by_numbers = record { less = λ a b. b < a; not_more = λ a b. b ≤ a }
 
