@@ -1,5 +1,4 @@
-//! The check of a certificate item by item. It keeps only what later items need, so a certificate of any length is
-//! checked in little memory.
+//! The check of a certificate item by item, as a reader hands the items out. It keeps only what later items need.
 
 ghost use Rattle.std.specs.Prelude.{◌≡◌, ◌∷◌, ◌++◌, [], List, IfOk, OnOk};
 ghost use Rattle.wh_system.specs.SystemView.{system_data};

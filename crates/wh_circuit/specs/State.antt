@@ -15,7 +15,7 @@ required_of circuit = circuit.required.items
 abbrev pub formula_of : Circuit → Formula
 formula_of circuit = circuit.formula
 
--- so many gates at most have joined, and clauses; what is required stays
+-- at most n gates have joined, and clauses with them; what is required stays
 pub record Grows (n : ℕ) (before after : Circuit) : Type 0 where
   pub gates : Extends n (gates_of before) (gates_of after)
   pub clauses : take (length (formula_of before).clauses) (formula_of after).clauses ≡ (formula_of before).clauses

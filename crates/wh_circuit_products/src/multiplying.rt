@@ -37,8 +37,8 @@ pub fn times(
     }
 }
 
-// The same, but for what is left without memory. After each row the lowest bits of the product are made, and `rest` is
-// what the rows so far leave for the higher ones.
+// The bits of the product, as for `times`; where memory is wanting, gates may be left that `times` takes back. After
+// each row the lowest bits of the product are made, and `rest` is what the rows so far leave for the higher ones.
 fn multiplied(
     alloc: Global,
     circuit: &mut Circuit,

@@ -39,7 +39,7 @@ pub fn sum(
     }
 }
 
-/// The sum of two numbers that are no wider than stated, but for what is left without memory.
+/// The sum of two numbers of at most `width` bits. Where memory is wanting, gates may be left that `sum` takes back.
 pub fn added(
     alloc: Global,
     circuit: &mut Circuit,

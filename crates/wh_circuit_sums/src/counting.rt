@@ -31,7 +31,8 @@ pub fn exactly_one(circuit: &mut Circuit, of: &[Wire]) -> Result<Wire, AllocErro
     }
 }
 
-// The same, but for what is left without memory.
+// Compares the number of true wires with 1 as `exactly_one` does. Where memory is wanting, gates may be left that
+// `exactly_one` takes back.
 fn one_of(circuit: &mut Circuit, of: &[Wire]) -> Result<Wire, AllocError>
     requires room { length (gates_of circuit.old) + (3 * length of.now + 2) < 2 ^ 31 }
     requires own { AreWires (gates_of circuit.old) of.now }

@@ -21,8 +21,8 @@ use Rattle.wh_poly_guesses.specs.Found.{IsInterpretationOver}
 use Rattle.wh_poly_blocking.specs.Tried.{AreWritten}
 use Rattle.wh_poly_flat.specs.Flat.{all_occurrences}
 
--- so many variables there are at most: 200,000 for each occurrence, and where no rules are to be covered 400,000 more,
--- as all symbols have coefficients
+-- the greatest number of variables of the formula, where there are n occurrences: 200,000 for each occurrence, and
+-- 400,000 more where no rules are to be covered, as all symbols have coefficients
 abbrev pub most_variables : List ℕ → ℕ → ℕ
 most_variables [] n = 200000 * (n + 2)
 most_variables (m ∷ covered) n = 200000 * n

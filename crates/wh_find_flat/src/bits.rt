@@ -7,9 +7,9 @@ ghost use Rattle.wh_poly_blocking.specs.Sizes.{bits_in, first_of};
 /// comes first.
 #[derive(Drop)]
 pub struct Bits {
-    /// How many there are of each.
+    /// How many coefficients each symbol has.
     pub sizes: Vec<usize>,
-    /// The first bit of each, and behind all how many bits there are.
+    /// The first bit of each symbol, and behind all how many bits there are.
     pub firsts: Vec<u32>,
     ghost count: { length firsts.items ≡ length sizes.items + 1 },
     ghost each: { (n : ℕ) → n ≤ length sizes.items → get_or firsts.items n 0 ≡ first_of sizes.items n },

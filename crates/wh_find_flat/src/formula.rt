@@ -25,7 +25,7 @@ use wh_pairs::{Pair, call};
 use wh_reduction_pairs::Task;
 use wh_terms::Rule;
 
-// So many inputs.
+// A circuit of `count` inputs.
 fn inputs(alloc: Global, count: usize) -> Result<Circuit, AllocError>
     requires { count < 2 ^ 31 }
     ensures inputs { IfOk result (λ made. AreInputs count (gates_of made)) }
@@ -85,7 +85,8 @@ struct Calls<'a> {
     first: u32,
 }
 
-// So it is of each pair of the set; the wires are true exactly where the constant on the left is greater.
+// Requires of each pair of the set that its left side is at least its right one. The wires, one for each pair, are true
+// exactly where the constant on the left is greater.
 fn require_pairs<'a>(
     alloc: Global,
     circuit: &mut Circuit,
@@ -115,7 +116,8 @@ fn require_pairs<'a>(
     Ok(greater)
 }
 
-// The same of a pair.
+// Requires of a pair that its left side is at least its right one. The wire is true exactly where the constant on the
+// left is greater.
 fn require_call<'a>(
     alloc: Global,
     circuit: &mut Circuit,

@@ -1,4 +1,4 @@
-//! The numbers of a side.
+//! Parts: which of the numbers of a flat side is meant.
 
 /// One of the numbers that a flat side comes to.
 #[derive(Clone, Copy)]

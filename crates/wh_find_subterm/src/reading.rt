@@ -29,7 +29,7 @@ pub fn choices_by(alloc: Global, values: &[bool], rows: &[Row]) -> Result<Projec
     Ok(args)
 }
 
-// The first of so many variables that is true, counted from 0; their number where none is.
+// The first of `count` variables from `first` on that is true, counted from 0; `count` where none is.
 fn first_true(values: &[bool], first: u32, count: u32) -> u32
     requires few { length values.now < 2 ^ 32 }
     requires within { first + count ≤ length values.now }

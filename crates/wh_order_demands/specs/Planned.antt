@@ -27,7 +27,8 @@ MeetsFirstFrom spots k ps demand = (v : ℕ → Bool) (Φ : ℕ → Filter) → 
 abbrev pub MeetsOrder : List (Option Spot) → OrderData → Demand → Type 0
 MeetsOrder spots o demand = (v : ℕ → Bool) (Φ : ℕ → Filter) → SayFilters spots v Φ → IsOrderMet v Φ o → holds v demand ≡ true
 
--- or both
+-- wherever bits say filters behind which a whole condition is met (none of some bits is set, all parts are met, and
+-- symbols compare), they meet the demand
 abbrev pub MeetsWhole : List (Option Spot) → AllData → Demand → Type 0
 MeetsWhole spots a demand = (v : ℕ → Bool) (Φ : ℕ → Filter) → SayFilters spots v Φ → IsWholeMet v Φ a → holds v demand ≡ true
 

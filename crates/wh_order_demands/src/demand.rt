@@ -1,4 +1,4 @@
-//! Demands on bits, as data.
+//! Demands on bits, as data: formulas of bits without negations but at the bits.
 
 /// What bits have to meet.
 #[derive(Drop)]
@@ -11,8 +11,8 @@ pub enum Demand {
     Bit(u32),
     /// The bit with this number is not set.
     NoBit(u32),
-    /// Both are met.
+    /// The two demands are met.
     Both(Box<Demand>, Box<Demand>),
-    /// One of the two is met, or both.
+    /// At least one of the two demands is met.
     Either(Box<Demand>, Box<Demand>),
 }

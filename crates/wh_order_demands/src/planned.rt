@@ -1,4 +1,4 @@
-//! Demands of claims.
+//! The demand of a claim: its plan, followed into the parts. `demand_of` is the main function.
 
 ghost use Rattle.std.specs.Prelude.{◌≡◌, ◌||◌, ℕ, Bool, IfOk, not, true};
 ghost use Rattle.wh_terms.specs.Erase.{tm};
@@ -125,7 +125,7 @@ fn others_of(
     either(alloc, picks, low)
 }
 
-// That one of so many bits is set.
+// The demand that one of `count` bits from `first` on is set.
 fn one_of(alloc: Global, first: u32, count: u32) -> Result<Demand, AllocError>
     ensures { IfOk result (λ made. (v : ℕ → Bool) → SomeSet v first count → holds v made ≡ true) }
 {
@@ -219,7 +219,7 @@ fn first_of(
     Ok(found)
 }
 
-// The same where one more part comes first.
+// The demand that in the first part that differs the left tree is greater, for this part and then those of `rest`.
 #[cycle(demanding)]
 fn first_from(
     alloc: Global,

@@ -6,7 +6,7 @@ use Rattle.wh_sat_trail.specs.declared.literal.Literal.{Literal}
 abbrev pub false_literal : (ℕ → Bool) → ℕ → Literal
 false_literal v x = record { variable = x; positive = not (v x) }
 
--- those on so many bits from x on
+-- the literals on k bits from x on that are false under v
 abbrev pub literals_from : (ℕ → Bool) → ℕ → ℕ → List Literal
 literals_from v x zero = []
 literals_from v x (suc k) = false_literal v x ∷ literals_from v (suc x) k

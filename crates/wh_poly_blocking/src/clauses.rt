@@ -9,8 +9,8 @@ use crate::bits::bit;
 use std::alloc::{AllocError, Global};
 use wh_sat_trail::{Clause, Clauses, Literal};
 
-/// The literals that are false under the values, on the bits of what has these numbers; the list has the first bit of
-/// each number.
+/// The clause of the literals that are false under the values, on the bits of the symbols with these numbers. The list
+/// has the first bit of each symbol.
 pub fn clause_of(
     alloc: Global,
     values: &[bool],

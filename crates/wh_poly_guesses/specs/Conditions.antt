@@ -74,7 +74,7 @@ pub record IsMet (left right : Run Polynomial) (strict : Bool) : Type 0 where
   pub covers : CoversSides left right strict moves
 
 module _ (T : TaskData) (R : ReadingsData) where
-  -- so it is of the sides of a pair
+  -- the condition is met by the sides of a pair, under the readings
   abbrev pub IsMetBy : PairData → Bool → Type 0
   IsMetBy p strict = IsMet (pair_run T.symbols T.rules R p false) (pair_run T.symbols T.rules R p true) strict
 

@@ -18,7 +18,7 @@ WeighsOver t usable R (Found node) =
     IsInterpretationOver (system_data t.system.now) (task_data t).pairs (task_data t).set usable (said_node node)
 WeighsOver t usable R (Failing k) = Fails (task_data t) R k
 
--- so it is of a node that lists none
+-- the answer about a node that lists no rules
 abbrev pub Weighs : Task → ReadingsData → Weighing → Type 0
 Weighs t = WeighsOver t None
 

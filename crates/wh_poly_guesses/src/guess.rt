@@ -1,4 +1,4 @@
-//! A guess: readings of its own, that the search changes.
+//! Guesses: readings that a search owns and changes.
 
 ghost use Rattle.std.specs.Prelude.{◌≡◌};
 

@@ -21,10 +21,10 @@ use wh_proof::{lines_of_marks, lines_of_symbols};
 use wh_reduction_pairs::Task;
 use wh_types::{Numbers, Or};
 
-/// What a guess comes to.
+/// The outcome of a guess.
 #[derive(Drop)]
 pub enum Weighing {
-    /// The node of it: all conditions hold.
+    /// All conditions hold: the node of the guess.
     Found(Node),
     /// The number of a condition that fails.
     Failing(usize),

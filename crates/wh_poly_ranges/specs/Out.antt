@@ -17,11 +17,12 @@ use Rattle.wh_poly_ranges.specs.declared.bounds.Span.{Span}
 abbrev pub IsOut : Task → ℕ → Ranges → Type 0
 IsOut t strict r = IsExcluded (task_data t) strict (lists_of r.low) (lists_of r.high)
 
--- the same of ranges that are told by their ends alone
+-- no readings with coefficients in the ranges cover all, and the pair with this place strictly; the ranges are told by
+-- their ends alone
 abbrev pub IsSpanOut : Task → ℕ → Span → Type 0
 IsSpanOut t strict s = IsExcluded (task_data t) strict (lists_in s.low.items) (lists_in s.high.items)
 
--- so it is of each of these ranges
+-- each of the ranges is out
 abbrev pub AllOut : Task → ℕ → List Span → Type 0
 AllOut t strict spans = (s : Span) → Contains spans s → IsSpanOut t strict s
 

@@ -75,7 +75,7 @@ fn narrow<'a>(
     Ok(())
 }
 
-// Cuts off lower ends of what is used on the left side, or upper ends of what is used on the right side.
+// Cuts off lower ends of the readings of symbols on the left side, or upper ends of those on the right side.
 fn cut_side<'a>(
     alloc: Global,
     task: &Task<'a>,

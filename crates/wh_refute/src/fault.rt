@@ -1,4 +1,4 @@
-//! What the checker answers.
+//! The answers of the checker of lists of clauses.
 
 /// The list shows that the formula has no model.
 #[derive(Clone, Copy)]

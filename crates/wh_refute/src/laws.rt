@@ -7,7 +7,7 @@ pub fn refutations_refute()
     ensures { RefutationsRefute }
 {}
 
-/// Such a list has no fault.
+/// A list that refutes a formula has no fault.
 pub fn refutations_have_no_fault()
     ensures { RefutationsHaveNoFault }
 {}

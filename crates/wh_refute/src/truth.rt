@@ -18,7 +18,7 @@ pub struct Truth {
 }
 
 impl Truth {
-    /// Nothing is true of so many variables.
+    /// No literal over `variables` variables is true.
     pub fn new(alloc: Global, variables: u32) -> Result<Truth, AllocError>
         ensures { IfOk result (λ truth. Tells variables truth [] × (truth.round ≡ 1)) }
     {

@@ -1,4 +1,4 @@
-//! The solver.
+//! Solving a formula with a list of clauses as evidence. `solve_listed` is the main function.
 
 ghost use Rattle.std.specs.Bool.{OnTrue};
 ghost use Rattle.std.specs.Prelude.{◌≡◌, ◌+◌, ◌-◌, ◌<◌, ◌≤◌, ◌^◌, Contains, IfOk, IfSome, false, get_or, length};
@@ -15,14 +15,14 @@ use wh_sat_engine::{Attempt, is_model, run_engine};
 use wh_sat_trail::{Clauses, Entry, Formula, Refutation};
 use wh_types::Or;
 
-/// What a formula comes to.
+/// The outcome for a formula.
 #[derive(Drop)]
 pub enum Listed {
     /// A truth value for each variable, under which all clauses are true.
     Sat(Vec<bool>),
     /// No values make all clauses true, and this list shows it.
     Unsat(Refutation),
-    /// The clauses that were learnt, as many as may be.
+    /// The clauses that were learnt, as many as may be. Whether there is a model is open.
     Spent(Clauses),
 }
 

@@ -30,7 +30,7 @@ impl Trail {
         self.assignment.assign(literal, Some(reason));
     }
 
-    /// The other watch of a clause that watches a literal.
+    /// The second watch of a clause, where `falsified` is one of its two watches.
     fn other_watch(&self, number: usize, falsified: Literal) -> Option<Literal>
         ensures { MatchOption result (number < vec_len self.now.pairs → (get_or self.now.pairs.items number no_pair).watched ≡ true
             → ((get_or self.now.pairs.items number no_pair).first ≢ falsified)
