@@ -1,4 +1,4 @@
-//! The reasons for rejecting a certificate, told by their words.
+//! Reading why a certificate is rejected from the words of a line.
 
 ghost use Rattle.std.specs.Prelude.{◌≡◌, ◌∷◌, ◌++◌, [], ℕ, codes, IfOk};
 ghost use Rattle.std.specs.Fmt.{decimal};

@@ -22,11 +22,11 @@ Says o text = BeginsWith (first_words (verdict_of o)) text
 abbrev pub SaysOf : SystemData → List PairData → Cert → List ℕ → Type 0
 SaysOf d ps c text = (o : Report) × Weighed d ps c o × Says o text
 
--- the same of the bytes that are to be the certificate's
+-- the text begins with the words for what the check answers on these bytes as a certificate
 abbrev pub SaysOfBytes : SystemData → List PairData → List ℕ → List ℕ → Type 0
 SaysOfBytes d ps bytes text = (o : Report) × Judged d ps bytes o × Says o text
 
--- the same of the two files
+-- the text begins with the words for what the check answers on the two files
 abbrev pub SaysOfFiles : Shelves → List ℕ → List ℕ → List ℕ → Type 0
 SaysOfFiles s file cert text = (o : Report) × Stands s file cert o × Says o text
 

@@ -266,7 +266,7 @@ fn put_last(alloc: Global, text: &mut Text, system: &System) -> Result<(), Alloc
     put_lints(alloc, text, system)
 }
 
-// Both, one behind the other.
+// The two texts, one behind the other.
 fn joined(alloc: Global, first: &[u8], second: &[u8]) -> Result<Bytes, AllocError>
     ensures { IfOk result (λ text. text ≡ first.now ++ second.now) }
 {

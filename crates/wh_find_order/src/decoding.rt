@@ -34,7 +34,7 @@ pub fn order_by<'a>(
     Ok(Filters { funs, marks })
 }
 
-// The filters of so many symbols.
+// The filters of the first `symbols` symbols.
 fn symbol_filters<'a>(
     alloc: Global,
     encoding: &Encoding<'a>,
@@ -57,7 +57,7 @@ fn symbol_filters<'a>(
     Ok(funs)
 }
 
-// Those of the marked symbols, which are numbered on behind so many symbols.
+// The filters of the marked symbols, which are numbered on behind `symbols` symbols.
 fn mark_filters<'a>(
     alloc: Global,
     encoding: &Encoding<'a>,

@@ -1,4 +1,5 @@
-//! The search for interpretations of a set.
+//! The search for interpretations of a set: a climb, then ranges of coefficients, and then guesses by a solver.
+//! `find_interpretation` is the main function.
 
 ghost use Rattle.std.specs.Prelude.{◌<◌, ◌≤◌, All, IfOk, length};
 ghost use Rattle.wh_types.specs.Limits.{most_pairs};
@@ -63,8 +64,8 @@ pub fn find_interpretation(
     find_for(alloc, &task, &marked, budget)
 }
 
-// The same with the marked symbols of the set: a climb, then ranges of coefficients, and then guesses, of which the
-// first is the best of the climb.
+// Searches with the marked symbols of the set: a climb, then ranges of coefficients, and then guesses, of which the
+// first is the best one of the climb.
 fn find_for<'a>(
     alloc: Global,
     task: &Task<'a>,

@@ -68,7 +68,7 @@ fn add_map(alloc: Global, number: u32, funs: &mut RawFuns) -> Result<(), AllocEr
     add_fun(alloc, name.bytes(), kind, funs)
 }
 
-/// The symbols, with that many functions.
+/// The symbols of a generated system with `count` functions.
 pub fn funs(alloc: Global, count: u32) -> Result<RawFuns, AllocError>
     ensures { IfOk result (λ raw. map rfun raw ≡ raw_base ++ map raw_map_fun (range_with_len 0 count)) }
 {

@@ -127,7 +127,7 @@ fn add_rules(alloc: Global, number: u32, rules: &mut RawRules) -> Result<(), All
     rules.push(second_rule(alloc, number)?)
 }
 
-/// The rules of that many functions.
+/// The rules of `count` functions.
 pub fn rules(alloc: Global, count: u32) -> Result<RawRules, AllocError>
     ensures { IfOk result (λ raw. map rrule raw ≡ raw_rules count) }
 {

@@ -22,7 +22,7 @@ IsHeaded (fun f) = Unit {0}
 IsHeaded (app t u) = IsHeaded t
 IsHeaded _ = ⊥
 
--- both are one symbol, with as many arguments (ours)
+-- the two terms are one symbol, with equally many arguments (ours)
 abbrev pub SameHead : Tm → Tm → Type 0
 SameHead (fun f) (fun g) = f ≡ g
 SameHead (app t u) (app v w) = SameHead t v

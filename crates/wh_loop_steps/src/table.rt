@@ -22,7 +22,7 @@ impl Model for Table {
 }
 
 impl Table {
-    /// So many rows without numbers.
+    /// `count` rows without numbers.
     pub fn new(alloc: Global, count: usize) -> Result<Table, AllocError>
         ensures { IfOk result (λ table. length table ≡ count) }
     {

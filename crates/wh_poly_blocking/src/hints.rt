@@ -21,8 +21,8 @@ pub struct Hints {
 }
 
 impl Hints {
-    /// The hints for conditions: `numbers` has, for each condition, the numbers of the interpretations that it uses, and
-    /// `sizes` how many monomials each interpretation may have.
+    /// The hints for conditions: `numbers` has, for each condition, the numbers of the interpretations that it uses,
+    /// and `sizes` how many monomials each interpretation may have.
     pub fn new(
         alloc: Global,
         numbers: &[Vec<usize>],

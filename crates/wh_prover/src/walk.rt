@@ -17,8 +17,8 @@ use wh_cert::Nodes;
 use wh_graph::Graph;
 use wh_pairs::PairSet;
 
-/// Puts the nodes of a proof for the set of all pairs into the list, each before what it leaves; or says on which set
-/// the walk ends, and why. The sets that are still to be settled are kept on a stack, the next on top.
+/// Puts the nodes of a proof for the set of all pairs into the list, each before its children; or says on which set the
+/// walk ends, and why. The sets that are still to be settled are kept on a stack, the next on top.
 pub fn walk<'a>(
     alloc: Global,
     setting: &Setting<'a>,

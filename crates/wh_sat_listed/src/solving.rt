@@ -27,10 +27,10 @@ pub enum Listed {
 }
 
 /// Solves a formula as `solve` of wh_sat does, and where it has no model gives a list that shows it. The engine of
-/// wh_sat_engine searches first, and what it finds is believed only after a look: values that make all clauses true, or a
-/// list that the checker accepts. Where it finds neither, the solver of wh_sat does; its list is of the clauses that it
-/// learnt, in their order, with hints that are sought once its search has ended, and of the empty clause. At most
-/// `budget` clauses are learnt; where none may be, the answer is `Spent`. The error is want of memory.
+/// wh_sat_engine searches first. Its result is believed only after a look: values have to make all clauses true, and
+/// the checker has to accept a list. Where it finds neither, the solver of wh_sat goes on; its list is of the clauses
+/// that it learnt, in their order, with hints that are sought once its search has ended, and of the empty clause. At
+/// most `budget` clauses are learnt; where none may be, the answer is `Spent`. The error is want of memory.
 pub fn solve_listed(alloc: Global, formula: &Formula, budget: u64) -> Result<Listed, AllocError>
     requires within { Within formula.now.variables formula.now.clauses }
     requires few { length formula.now.clauses + budget < 2 ^ 31 - 1 }

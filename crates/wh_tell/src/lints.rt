@@ -43,7 +43,7 @@ struct Place<'a> {
     wanted: &'a [Wanted],
 }
 
-// Looks for arguments that no rule can match, in a term below so many binders.
+// Looks for arguments that no rule can match, in a term below `depth` binders.
 #[cycle(lints)]
 fn lint_term(text: &mut Text, place: &Place<'_>, term: &Term, depth: u32) {
     lint_spine(text, place, term, depth);
@@ -58,7 +58,7 @@ fn lint_term(text: &mut Text, place: &Place<'_>, term: &Term, depth: u32) {
     }
 }
 
-// The same of the terms of a list.
+// Looks for arguments that no rule can match, in each term of a list below `depth` binders.
 #[cycle(lints)]
 fn lint_list(text: &mut Text, place: &Place<'_>, items: &Terms, depth: u32) {
     for item in items.as_slice() {

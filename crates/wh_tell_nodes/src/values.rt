@@ -38,7 +38,7 @@ const NO_LIST: &str =
 const NO_READINGS: &str =
     "These lines don't name each symbol and each marked symbol of the pairs once, in order, so sides have no values.";
 
-/// Appends what symbols are read as, what both sides of each rule and pair are worth, and which pairs are dropped.
+/// Appends the polynomials of symbols, the values of both sides of each rule and pair, and which pairs are dropped.
 pub fn put_interpretation(
     alloc: Global,
     text: &mut Text,

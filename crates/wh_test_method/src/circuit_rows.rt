@@ -30,7 +30,7 @@ fn count(circuit: &Circuit) -> u32
     circuit.formula().variables
 }
 
-// Whether so many variables may join.
+// Whether `more` variables may join.
 fn has_room(circuit: &Circuit, more: usize) -> bool
     ensures { OnTrue result (length (gates_of circuit.now) + more < 2 ^ 31) }
 {

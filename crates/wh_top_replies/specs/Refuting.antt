@@ -20,7 +20,7 @@ use Rattle.wh_top_judging.specs.Outcomes.{Shelves, BeginsWith, ToldSystem}
 use Rattle.wh_top_replies.specs.Causes.{named_cause}
 use Rattle.wh_top_replies.specs.Proving.{CauseIsThere}
 
--- the bounds of the search: so many tries, and else what is usual
+-- the bounds of the search: n tries, and else the usual ones
 abbrev pub options_with : ℕ → Options
 options_with n = record { tries = n; depth = usual depth; visited = usual visited }
 

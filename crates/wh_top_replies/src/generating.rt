@@ -37,14 +37,15 @@ const USUAL: Options = Options {
     visited: 500,
 };
 
-/// What the search for a proof came to: how many nodes the certificate has, and the last line.
+/// The outcome of the search for a proof: how many nodes the certificate has, and the last line.
 #[derive(Drop)]
 struct Outcome {
     nodes: u32,
     answer: Bytes,
 }
 
-/// How many rules and pairs the generated system with the number has, and what the search for a proof of it comes to.
+/// The text that `gen` writes: how many rules and pairs the generated system with the number has, and the outcome of
+/// the search for a proof of it.
 pub fn generated(alloc: Global, n: u32) -> Result<Bytes, Or<Report>>
     requires some { 1 ≤ n }
     requires few { n ≤ most_generated }

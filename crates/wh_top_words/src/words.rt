@@ -1,4 +1,4 @@
-//! What the words ask for.
+//! The command that the words of the command line ask for. `read_words` is the main function.
 
 ghost use Rattle.std.specs.Prelude.{ℕ, ◌≡◌, ◌≤◌, MatchOption, codes, map, string_bytes, unwrap_or};
 ghost use Rattle.std.specs.Fmt.{decimal};

@@ -198,7 +198,7 @@ fn finds_front(alloc: Global, sheet: &Sheet, rest: &str) -> Result<bool, AllocEr
     is_accepted(alloc, sheet.given.system.as_slice(), told)
 }
 
-// `writes STATUS TEXT` and the like.
+// Whether the last run ended as a line like `writes STATUS TEXT` says.
 fn ends_as(alloc: Global, sheet: &Sheet, verb: Verb, rest: &str) -> Result<bool, AllocError> {
     let (status, raw) = rest.split_once(' ').unwrap_or((rest, ""));
     let text = spelled(alloc, sheet.texts.as_slice(), raw)?;

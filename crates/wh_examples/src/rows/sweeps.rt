@@ -78,8 +78,8 @@ fn is_answer(status: u8, text: &[u8]) -> bool {
     }
 }
 
-/// Whether the fault of each write leaves the bytes of the writes before it, where a write takes so many bytes and the
-/// text is written.
+/// Whether the fault of each write leaves the bytes of the writes before it, where a write takes at most `piece` bytes
+/// and `text` is written.
 pub fn leaves_fronts(
     alloc: Global,
     given: &Given,
