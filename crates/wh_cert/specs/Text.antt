@@ -85,7 +85,7 @@ abbrev pub put_numbers : List ℕ → List ℕ → List ℕ
 put_numbers [] r = r
 put_numbers (n ∷ ns) r = put_entry n (put_numbers ns r)
 
--- these up to the end of their line
+-- the numbers up to the end of their line
 abbrev pub put_line : List ℕ → List ℕ → List ℕ
 put_line ns r = put_numbers ns (line_feed ∷ r)
 

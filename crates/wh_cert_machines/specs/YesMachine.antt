@@ -248,7 +248,7 @@ pub data Past : Type 0 where
 abbrev pub nothing : Past
 nothing = so_far 0 [] 0 [] 0
 
--- one more item; a node wants its children in its place
+-- the items and one more; a node wants its children in its place
 abbrev pub gather : Past → Item → Past
 gather (so_far version ranks pairs nodes wanted) (version_item new) = so_far new ranks pairs nodes wanted
 gather (so_far version ranks pairs nodes wanted) (ranks_item new) = so_far version new pairs nodes wanted

@@ -99,7 +99,7 @@ at_rule k r (moves.OverSpent i) = row.OverSpentRule k r i
 at_rule k r (moves.NotCovered j) = row.NotCoveredRule k r j
 at_rule k r moves.NotStrict = row.NotStrict k r
 
--- and of the moves for a pair
+-- the fault of the moves for a pair
 abbrev pub at_pair : ℕ → ℕ → CoverFault → Rejected
 at_pair k a (moves.BadMove e) = row.BadMovePair k a e
 at_pair k a (moves.OverSpent i) = row.OverSpentPair k a i

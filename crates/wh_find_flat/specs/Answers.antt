@@ -34,7 +34,7 @@ pub record IsFlatFormula (T : TaskData) (marked : List ℕ) (variables : ℕ) (c
   pub within : Within variables clauses
   -- what a model writes lets a pair go
   pub models : (v : ℕ → Bool) → Solves v clauses → (R : ReadingsData) → AreWritten T marked v R → LetsGo T R
-  -- and what lets a pair go is written by a model
+  -- each interpretation of the space that lets a pair go is written by a model
   pub all : (R : ReadingsData) → AreOfSpace T R → LetsGo T R → (v : ℕ → Bool) × Solves v clauses × AreWritten T marked v R
 
 -- as many clauses as the budget, each of which can be learnt from such a formula and those before it (ours)

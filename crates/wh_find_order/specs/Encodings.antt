@@ -72,7 +72,7 @@ abbrev pub AreFiltersFrom : Encoding → (ℕ → Bool) → ℕ → List Written
 AreFiltersFrom e v n filters =
     (i : ℕ) (f : WrittenFilter) → slice_get filters i ≡ Some f → IsFilterBy (task_in e) e.marked.now v (n + i) f
 
--- they write no filter that is tried for the symbol with this number
+-- the bits write no filter that is tried for the symbol with this number
 abbrev pub HasNoFilter : Encoding → (ℕ → Bool) → ℕ → Type 0
 HasNoFilter e v n = (n < length (scopes_for e)) × FailsUnder (task_in e) e.marked.now v (proper n)
 

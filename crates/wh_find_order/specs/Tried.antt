@@ -20,7 +20,7 @@ pub data Condition : Type 0 where
   line : (c : g.Condition) → Condition
 
 module _ (T : TaskData) (marked : List ℕ) where
-  -- it is one of the conditions of the set: the symbol is one of those that are numbered, the line that of a rule or of
+  -- the condition is one of the set: its symbol is one of those that are numbered, or its line is that of a rule or of
   -- a pair
   abbrev pub IsOfSet : Condition → Type 0
   IsOfSet (proper n) = n < length (scopes_of T marked)

@@ -108,7 +108,7 @@ second_right (suc j) = map_of j (mapped_list (suc j))
 abbrev pub first_rule : ℕ → RewriteRule
 first_rule i = record { metas = first_metas; left = map_of i nil; right = nil }
 
--- its second rule: `mi (\x:nat.F[x]) (cons X Y)` becomes the right side above
+-- the second rule of the function number i: `mi (\x:nat.F[x]) (cons X Y)` becomes the right side above
 abbrev pub second_rule : ℕ → RewriteRule
 second_rule i = record { metas = second_metas; left = map_of i (cons meta_x meta_y); right = second_right i }
 

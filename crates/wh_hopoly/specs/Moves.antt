@@ -66,7 +66,7 @@ pub record IsCover (left right : Polynomial) (ms : List Transfer) : Type 0 where
   pub not_over_spent : (i : ℕ) → NotOverSpent left ms i
   pub covered : (j : ℕ) → Covered right ms j
 
--- and that it is greater: a unit of the left one's constant is left over (ours)
+-- the moves show that the left polynomial is greater: a unit of its constant is left over (ours)
 pub record IsStrictCover (left right : Polynomial) (ms : List Transfer) : Type 0 where
   pub cover : IsCover left right ms
   pub constant : ℕ

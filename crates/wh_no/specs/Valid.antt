@@ -30,7 +30,7 @@ HoldsInstance t puts at u = opened_part_at (first_unused t) at u ≡ Some (act b
 pub record IsValid (S : Symbols) (rules : List RewriteRule) (c : Claim) : Type 0 where
   -- the term is well typed: it has no loose variable and no meta-variable
   pub typed : WellTyped S c.term
-  -- and it fits
+  -- the term fits
   pub fits : Fits c.term
   -- there is at least one step
   pub some_step : 0 < length c.steps

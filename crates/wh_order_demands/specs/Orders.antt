@@ -23,7 +23,7 @@ compared s f x g y ss ts =
 abbrev pub all_above : Tm → (f x g y : ℕ) → (ss ts : List Tm) → AllData
 all_above s f x g y ss ts = record { first = length ss + x; count = length ss; parts = right_parts y (length ts + y) claim.Above s ts; order = compared s f x g y ss ts }
 
--- and where one symbol heads both and they are equal
+-- the condition of two equal trees that one symbol heads, part by part
 abbrev pub all_equal : (x : ℕ) → (ss ts : List Tm) → AllData
 all_equal x ss ts = record { first = 0; count = 0; parts = pair_parts x (length ss + x) claim.Equal ss ts; order = free }
 

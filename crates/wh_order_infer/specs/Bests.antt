@@ -72,7 +72,7 @@ abbrev pub IsLeastInference : FilteringData → ℕ → Goal → Option Inferenc
 IsLeastInference D room g r = (w : World) → IsGoalOver (length D.symbols) w g
     → IsLeast entries (IsGood w.symbols (order_of D) w.metas room (task (length D.symbols) g)) (option_map inference r)
 
--- and such inferences for the goals of a list, however many entries they have together
+-- inferences for the goals of a list that have the least number of entries together
 abbrev pub AreLeastInferences : FilteringData → ℕ → List Goal → Option (List Inference) → Type 0
 AreLeastInferences D room gs None = (w : World) → AreGoalsOver (length D.symbols) w gs
     → (js : m.Inferences) → AreGood w.symbols (order_of D) w.metas room (map (task (length D.symbols)) gs) js → 2 ^ 32 ≤ all_entries js

@@ -11,6 +11,6 @@ IsLeast {A} number P (Some a) = (number a < 2 ^ 32) × P a × ((b : A) → P b �
 abbrev pub own : ℕ → ℕ
 own n = n
 
--- it is not so that the fact fails: what can be kept of it beside data
+-- a fact that can't be refuted: what can be kept of a fact beside data
 abbrev pub NotRefuted : Type 0 → Type 0
 NotRefuted A = (A → ⊥) → ⊥

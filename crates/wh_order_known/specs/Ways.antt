@@ -20,7 +20,7 @@ module _ (F : Symbols) (prec : ℕ → ℕ) (M : List Declared) where
   abbrev pub IsGood : ℕ → Task → Inference → Type 0
   IsGood d k i = (verdict F prec M k i ≡ None) × (depth i ≤ d)
 
-  -- and so each one of a list for the task at its place
+  -- each inference of a list is good for the task at its place, and nests at most d deep
   abbrev pub AreGood : ℕ → List Task → Inferences → Type 0
   AreGood d ks is = (verdicts F prec M ks is ≡ None) × (deepest is ≤ d)
 

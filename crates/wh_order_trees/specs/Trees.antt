@@ -26,7 +26,7 @@ module _ (n : ℕ) where
     tree (Lam' a p t) = lam (ty a) (tree t)
     tree (Apply' p t shape all) = spine (tree t) (row all)
 
-    -- and those of its arguments
+    -- the trees of a node's arguments
     pub row : {m : _} → Row_of-Tree m → List Tm
     row end_of-Tree = []
     row (more_of-Tree t rest) = tree t ∷ row rest
@@ -60,7 +60,7 @@ module _ (n : ℕ) (F : Symbols) (M : List Declared) where
     AreOver end_of-Tree = Unit {0}
     AreOver (more_of-Tree t rest) = IsOver t × AreOver rest
 
-  -- and so each tree of a list
+  -- each tree of a list is over the signature
   abbrev pub EachOver : List Tree → Type 0
   EachOver [] = Unit {0}
   EachOver (t ∷ ts) = IsOver t × EachOver ts

@@ -16,7 +16,7 @@ mutual
     no_factors : Factors
     times : (x : ℕ) (ps : Arguments) (rest : Factors) → Factors
 
-  -- and each argument is a polynomial, in a scope with variables of its own (Fuhs and Kop 2012)
+  -- the arguments of a variable: each is a polynomial, in a scope with variables of its own (Fuhs and Kop 2012)
   pub data Arguments : Type 0 where
     no_arguments : Arguments
     argument : (p : Polynomial) (rest : Arguments) → Arguments
@@ -45,7 +45,7 @@ abbrev mutual
   compare_factors (times x ps us) (times y qs vs) =
       ordering_then (ordering_then (nat_cmp x y) (compare_arguments ps qs)) (compare_factors us vs)
 
-  -- and arguments from left to right (ours)
+  -- the order of two lists of arguments, which are compared from left to right (ours)
   pub compare_arguments : Arguments → Arguments → Ordering
   compare_arguments no_arguments no_arguments = Equal
   compare_arguments no_arguments (argument q qs) = Less

@@ -11,6 +11,7 @@ abbrev pub literals_from : (ℕ → Bool) → ℕ → ℕ → List Literal
 literals_from v x zero = []
 literals_from v x (suc k) = false_literal v x ∷ literals_from v (suc x) k
 
--- those on the bits of what has this number, where the list has the first bit of each number
+-- the literals on the bits of the symbol with number n that are false under v; the list has the first bit of each
+-- symbol
 abbrev pub literals_on : (ℕ → Bool) → List ℕ → ℕ → List Literal
 literals_on v firsts n = literals_from v (get_or firsts n 0) (get_or firsts (suc n) 0 - get_or firsts n 0)

@@ -4,7 +4,7 @@ use Rattle.std.specs.List.{flat_map}
 use Rattle.std.specs.Global.{Vec}
 use Rattle.wh_poly_guesses.specs.declared.uses.Uses.{Uses}
 
--- those on the two sides
+-- the numbers of the symbols on the two sides
 abbrev pub on_sides : Uses → List ℕ
 on_sides u = u.left.items ++ u.right.items
 

@@ -7,7 +7,7 @@ use Rattle.wh_reduction_pairs.specs.TaskData.{TaskData}
 use Rattle.wh_poly_guesses.specs.Conditions.{Condition, IsCondition, UsesNumber, HasSymbol, StandsInPair}
 use Rattle.wh_poly_guesses.specs.declared.uses.Uses.{Uses}
 
--- those numbers of which P holds join the list
+-- the numbers of which P holds join the list
 abbrev pub Joins : (ℕ → Type 0) → List ℕ → List ℕ → Type 0
 Joins P old new = (n : ℕ) → Contains new n ↔ (Contains old n ⊎ P n)
 
@@ -34,7 +34,7 @@ pub record AreRuleUses (rules : List RewriteRule) (covered : List ℕ) (uses : L
       → slice_get uses k ≡ Some u
       → UsesAll (λ m. StandsInRule m r) u
 
--- and so there is for each pair of the set
+-- for each pair of the set there is a list of the symbols and marked symbols on its sides
 pub record ArePairUses (first : ℕ) (marked : List ℕ) (pairs : List PairData) (set : List ℕ) (uses : List Uses) : Type 0 where
   pub count : length uses ≡ length set
   pub each : (i n : ℕ) (p : PairData) (u : Uses) → slice_get set i ≡ Some n → slice_get pairs n ≡ Some p

@@ -34,7 +34,8 @@ KeepsAll t strict old new = AreKept (task_data t) strict (lists_of old.low) (lis
 abbrev pub IsRuleOut : ReadingsData → ReadingsData → RewriteRule → Type 0
 IsRuleOut low high r = IsRefuted (length r.metas) (rule_run high r false).result (rule_run low r true).result false
 
--- and so is it of the pair with this place in the set
+-- by numbers the left side of the pair with this place in the set, under the upper readings, is too small for its right
+-- side under the lower ones
 abbrev pub IsPairOut : TaskData → ReadingsData → ReadingsData → ℕ → Bool → Type 0
 IsPairOut T low high place strict =
     (n : ℕ) × (p : PairData) × (slice_get T.set place ≡ Some n) × (slice_get T.pairs n ≡ Some p)

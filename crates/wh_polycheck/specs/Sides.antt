@@ -53,7 +53,7 @@ marked_expression M k ts = side_applied (length (types_of_metas M)) (symbol k) t
 abbrev pub side_polynomial : List Interpretation → List Declared → Tm → Polynomial
 side_polynomial symbols M t = (evaluate symbols (types_of_metas M) (side_expression M t)).result
 
--- and that of a marked side in the scope of its meta-variables (Fuhs and Kop 2012)
+-- the polynomial of a marked side in the scope of its meta-variables (Fuhs and Kop 2012)
 abbrev pub call_polynomial : List Interpretation → List Declared → ℕ → Tms → Polynomial
 call_polynomial symbols M k ts = (evaluate symbols (types_of_metas M) (marked_expression M k ts)).result
 

@@ -41,6 +41,6 @@ pub record AreMeasured (S : Symbols) (rules : List RewriteRule) (R : Tm → Tm �
   pub measured : (c d : MarkedCall) → IsTypedCall S rules d → SomePairStep S R P c d → (a : A) × measures d a × Ends order.less a
   -- what a call with a measure leads to by a step in an argument has one that is not more
   pub arguments : (c d : MarkedCall) (a : A) → IsTypedCall S rules c → measures c a → ArgumentsStep R c d → HasNoMore order measures a d
-  -- and what it leads to by a pair has one that is less, or one that is not more where Q holds of the pair
+  -- a call that a pair leads to has a measure that is less, or one that is not more where Q holds of the pair
   pub pairs : (p : PairData) (c d : MarkedCall) (a : A) → P p → IsTypedCall S rules c → measures c a → PairStep S R p c d
       → ((Q p × HasNoMore order measures a d) ⊎ HasLess order measures a d)

@@ -104,7 +104,7 @@ pub record HasNoLoops (d : SystemData) (o : Options) : Type 0 where
   pub none : HasNoLoop d o.depth
   pub all : ReachesFewer d.rules o.depth o.visited
 
--- or as many terms were reached as may be; each is a start itself, or holds no instance of its start (ours)
+-- as many terms were reached as may be kept; each is a start itself, or holds no instance of its start (ours)
 abbrev pub IsFull : SystemData → Options → List Arrival → Type 0
 IsFull d o list = AreVisited d o.depth o.visited list
 

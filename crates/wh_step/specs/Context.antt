@@ -75,7 +75,7 @@ abbrev pub NewSize : Tm → Option ℕ → Type 0
 NewSize w (Some n) = Fits w × (n ≡ size w)
 NewSize w None = Fits w → ⊥
 
--- these measures, or they do not keep the limits
+-- the joint has these measures, or they do not keep the limits
 abbrev pub LimitsJoint : ℕ → ℕ → Bool → Bool → Option Joint → Type 0
 LimitsJoint h n f a (Some j) = (j.height ≡ h) × (j.arguments ≡ n) × (j.is_front ≡ f) × (j.is_applied ≡ a)
 LimitsJoint h n f a None = h ≤ greatest_height → n ≤ most_arguments → ⊥

@@ -27,7 +27,7 @@ abbrev mutual
   raw_parts_nesting no_types = 0
   raw_parts_nesting (more_types a rest) = max (raw_part_nesting a) (raw_parts_nesting rest)
 
--- and of one by itself
+-- how deep the parentheses nest in a type by itself
 abbrev pub raw_nesting : RTy → ℕ
 raw_nesting (raw_type args s at) = raw_parts_nesting args
 

@@ -19,7 +19,7 @@ abbrev mutual
   HasSymbol f (app t u) = HasSymbol f t ⊎ HasSymbol f u
   HasSymbol f _ = ⊥
 
-  -- or in one of the trees
+  -- the symbol f stands in one of the trees
   pub HaveSymbol : ℕ → Tms → Type 0
   HaveSymbol f none = ⊥
   HaveSymbol f (more t ts) = HasSymbol f t ⊎ HaveSymbol f ts
