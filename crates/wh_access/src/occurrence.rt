@@ -1,4 +1,4 @@
-//! Whether a meta-variable occurs in a term.
+//! Whether a meta-variable occurs in a term, which the tests of ranks ask of right sides.
 
 ghost use Rattle.std.specs.Prelude.{◌↔◌, IsTrue};
 ghost use Rattle.wh_terms.specs.Erase.{tm, tms};

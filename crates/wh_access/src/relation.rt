@@ -1,4 +1,4 @@
-//! Relations between sorts, as tables.
+//! Relations between sorts, as tables with a truth value for each two sorts.
 
 ghost use Rattle.std.specs.Prelude.{◌≡◌, ◌*◌, length};
 ghost use Rattle.wh_types.specs.Limits.{most_sorts};

@@ -1,4 +1,4 @@
-//! The words of a line, and the numbers and names among them.
+//! Cutting a line into words, and the numbers and names among them.
 
 ghost use Rattle.std.specs.Prelude.{◌≡◌, ◌↔◌, ◌++◌, List, ℕ, codes, IfOk, IsTrue, MatchOption};
 ghost use Rattle.std.specs.Fmt.{decimal};

@@ -1,4 +1,4 @@
-//! What an upgraded certificate proves.
+//! Laws of what an upgraded certificate proves: it is valid, and small, exactly where the first one is.
 
 ghost use Rattle.std.specs.Prelude.{◌↔◌, List, length};
 ghost use Rattle.wh_system.specs.Systems.{SystemData};

@@ -1,4 +1,4 @@
-//! Products, as sums of rows.
+//! Products of numbers whose bits are wires, as sums of rows. `times` is the main function.
 
 ghost use Rattle.std.specs.Prelude.{◌≡◌, ℕ, ◌+◌, ◌*◌, ◌<◌, ◌≤◌, ◌^◌, Bool, IfOk, OnErr, OnOk, length};
 ghost use Rattle.wh_circuit.specs.Gates.{AreWires, IsWire, MeansNumber};

@@ -1,4 +1,4 @@
-//! Sums, bit by bit with a carry.
+//! Sums of numbers whose bits are wires, bit by bit with a carry.
 
 ghost use Rattle.std.specs.Prelude.{◌≡◌, ℕ, ◌+◌, ◌*◌, ◌<◌, ◌≤◌, ◌^◌, ◌&&◌, ◌||◌, Bool, IfOk, OnErr, OnOk, get_or, length, max, not};
 ghost use Rattle.wh_circuit.specs.Gates.{AreWires, IsWire, Means, MeansNumber};

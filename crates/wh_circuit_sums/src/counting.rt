@@ -1,4 +1,4 @@
-//! How many wires are true.
+//! Counting true wires: `exactly_one` makes the wire that says that one alone is.
 
 ghost use Rattle.std.specs.Prelude.{◌≡◌, ℕ, ◌+◌, ◌*◌, ◌<◌, ◌^◌, Bool, IfOk, OnErr, OnOk, length, nat_eq};
 ghost use Rattle.wh_circuit.specs.Gates.{AreWires, IsWire, Means};

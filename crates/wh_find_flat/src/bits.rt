@@ -1,4 +1,4 @@
-//! The bits of coefficients, two for each.
+//! The bits of coefficients, two for each: which bit a coefficient has first.
 
 ghost use Rattle.std.specs.Prelude.{◌≡◌, ◌+◌, ◌≤◌, ◌<◌, ◌^◌, ℕ, get_or, length};
 ghost use Rattle.wh_poly_blocking.specs.Sizes.{bits_in, first_of};

@@ -1,4 +1,4 @@
-//! Numbers that are compared.
+//! Comparing numbers of two sides, as gates or as what is required.
 
 ghost use Rattle.std.specs.Prelude.{◌≡◌, ℕ, ◌+◌, ◌<◌, ◌≤◌, ◌^◌, Bool, IfOk, OnOk, false, length, max, nat_lt, not};
 ghost use Rattle.wh_circuit.specs.Gates.{AreWires, Means};

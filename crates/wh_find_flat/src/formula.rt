@@ -1,4 +1,4 @@
-//! The circuit of a flat set.
+//! The circuit of a flat set, with what is required of it. `circuit_of` is the main function.
 
 ghost use Rattle.std.specs.Prelude.{◌≡◌, ℕ, ◌+◌, ◌*◌, ◌<◌, ◌≤◌, ◌^◌, [], All, IfOk, OnOk, length, map, nat_lt, sum_by};
 ghost use Rattle.wh_terms.specs.Erase.{rewrite_rules};

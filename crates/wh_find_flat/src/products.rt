@@ -1,4 +1,4 @@
-//! Sums of products with coefficients.
+//! Sums of products with coefficients of two bits.
 
 ghost use Rattle.std.specs.Prelude.{◌≡◌, ℕ, ◌+◌, ◌<◌, ◌≤◌, ◌^◌, IfOk, OnOk, Some, length, take, true};
 ghost use Rattle.wh_circuit.specs.Gates.{AreWires};

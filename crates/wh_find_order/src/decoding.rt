@@ -1,4 +1,4 @@
-//! Orders that bits write.
+//! Decoding: the order that bits write, or the first symbol for which they write no proper filter.
 
 ghost use Rattle.std.specs.Prelude.{ℕ, ◌≡◌, ◌+◌, ◌<◌, ◌≤◌, IfOk, MatchOption, length, map};
 ghost use Rattle.wh_types.specs.Outcome.{MatchOr};

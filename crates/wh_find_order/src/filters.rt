@@ -1,4 +1,4 @@
-//! The filters that bits write.
+//! Decoding the filter of one symbol from its bits.
 
 ghost use Rattle.std.specs.Prelude.{ℕ, ◌≡◌, ◌↔◌, ◌+◌, ◌*◌, ◌<◌, ◌≤◌, ◌^◌, IfOk, IsTrue, MatchOption, None, Some, slice_get};
 ghost use Rattle.wh_types.specs.Erase.{ty, tys};

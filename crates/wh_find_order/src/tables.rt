@@ -1,4 +1,4 @@
-//! How many bits a precedence has.
+//! How many bits the precedence of a symbol has.
 
 ghost use Rattle.std.specs.Prelude.{◌≡◌, ◌-◌};
 ghost use Rattle.wh_order_space.specs.Bits.{binary_length};

@@ -1,4 +1,4 @@
-//! The clauses on the choices of arguments.
+//! The clauses of the formula of projections: which choices of arguments they allow.
 
 ghost use Rattle.std.specs.Prelude.{◌≡◌, ◌+◌, ◌<◌, ◌≤◌, ◌^◌, ◌++◌, [], ◌∷◌, All, IfOk, OnOk, map};
 ghost use Rattle.std.specs.List.{flat_map};

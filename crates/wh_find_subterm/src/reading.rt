@@ -1,4 +1,4 @@
-//! The projection that a model says.
+//! Reading a model: the projection that it says, and the pairs that go by it.
 
 ghost use Rattle.std.specs.Prelude.{◌≡◌, ◌+◌, ◌<◌, ◌≤◌, ◌^◌, ℕ, false, All, IfOk, IfSome, get_or, length, map};
 ghost use Rattle.wh_pairs.specs.PairData.{IsIncreasing, pair_data};

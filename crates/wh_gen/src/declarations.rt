@@ -1,4 +1,4 @@
-//! The sorts, the symbols and the meta-variables of a generated system.
+//! The sorts, the symbols and the meta-variables of a generated system, as a text declares them.
 
 ghost use Rattle.std.specs.Prelude.{◌≡◌, ◌∷◌, [], ◌++◌, IfOk, OnOk, map};
 ghost use Rattle.std.specs.List.{range_with_len};

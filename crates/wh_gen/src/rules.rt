@@ -1,4 +1,4 @@
-//! The rules of a generated system: two for each function.
+//! The rules of a generated system, as a text has them: two for each function.
 
 ghost use Rattle.std.specs.Prelude.{◌≡◌, ◌∷◌, [], ◌++◌, IfOk, OnOk, map};
 ghost use Rattle.wh_text.specs.Erase.{rtm};

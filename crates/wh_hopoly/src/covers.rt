@@ -1,4 +1,4 @@
-//! When one polynomial is at least another by its monomials alone.
+//! The test that one polynomial is at least another: monomial by monomial, with the same factors.
 
 ghost use Rattle.std.specs.Prelude.{◌↔◌, IsTrue};
 ghost use Rattle.wh_poly.specs.Erase.{poly};

@@ -1,4 +1,4 @@
-//! Proper parts of a numbered tree that are reached through arguments alone.
+//! Proper parts of a numbered tree that are reached through arguments of symbols alone.
 
 ghost use Rattle.std.specs.Prelude.{◌≡◌, ◌↔◌, ◌<◌, IsTrue, List, length};
 ghost use Rattle.wh_terms.specs.Tree.{Tm};

@@ -1,4 +1,4 @@
-//! Numbers listed under keys.
+//! Tables of numbers that are listed under keys.
 
 ghost use Rattle.std.specs.Prelude.{◌≡◌, ◌<◌, Some, IfOk, OnOk, length, slice_get};
 ghost use Rattle.wh_loop_steps.specs.Tables.{HasNumber, KeepsNumbers};

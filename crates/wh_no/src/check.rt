@@ -1,4 +1,4 @@
-//! The check of a NO certificate.
+//! The check of a NO certificate. `check_no` is the main function.
 
 ghost use Rattle.std.specs.Prelude.{IfOk, OnOk};
 ghost use Rattle.wh_types.specs.Outcome.{MatchOr, IfBecause};

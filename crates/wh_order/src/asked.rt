@@ -1,4 +1,4 @@
-//! What an inference asks for: the claims that its parts are for.
+//! The claims that an inference asks for: `goals_of` answers with one for each of its parts.
 
 ghost use Rattle.std.specs.Prelude.{ℕ, ◌≡◌, ◌↔◌, IfOk, IsTrue, length};
 ghost use Rattle.wh_order_inference.specs.Inferences.{Inferences, arguments, bodies, same_trees};

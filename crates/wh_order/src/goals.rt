@@ -1,4 +1,4 @@
-//! Claims about two trees, which inferences are for.
+//! Goals: claims about two trees, which inferences are to show.
 
 ghost use Rattle.std.specs.Prelude.{ℕ, ◌≡◌, ◌∷◌, ◌++◌, [], List, IfOk, OnOk, length};
 ghost use Rattle.wh_order_path.specs.Verdict.{Task, each, pairwise};

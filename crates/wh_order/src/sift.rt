@@ -1,4 +1,4 @@
-//! Terms behind filters.
+//! Filtering: terms become trees behind argument filters. `sift` is the main function.
 
 ghost use Rattle.std.specs.Prelude.{◌≡◌, [], IfOk, map, reverse};
 ghost use Rattle.wh_types.specs.Erase.{ty};

@@ -1,4 +1,4 @@
-//! Whether the filters of symbols and of marked symbols are proper.
+//! The test that the filters of symbols and of marked symbols are proper.
 
 ghost use Rattle.std.specs.Prelude.{◌≡◌, ◌↔◌, ◌<◌, ◌-◌, ◌^◌, ℕ, All, IfOk, IsTrue, MatchOption, length, map};
 ghost use Rattle.wh_types.specs.Erase.{ty};

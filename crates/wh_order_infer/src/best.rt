@@ -1,4 +1,5 @@
-//! The least number of entries that shows a goal.
+//! The search for the least number of entries that shows a goal. `best` is the main function; `build` makes the
+//! inference.
 
 ghost use Rattle.std.specs.Prelude.{◌≡◌, ◌↔◌, IfOk, IsTrue, Some};
 ghost use Rattle.wh_order_node.specs.FilteringView.{filtering_data};

@@ -1,4 +1,4 @@
-//! Inferences with the fewest entries.
+//! Building an inference with the fewest entries for a goal, by the choices of `best`.
 
 ghost use Rattle.std.specs.Prelude.{◌≡◌, IfOk, Some};
 ghost use Rattle.wh_order_node.specs.FilteringView.{filtering_data};

@@ -1,4 +1,5 @@
-//! Inferences of the path order.
+//! Inferences of the path order, as a certificate writes them: trees of letters, each of which says how a claim is
+//! shown.
 
 use wh_types::List;
 

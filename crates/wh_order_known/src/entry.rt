@@ -1,4 +1,4 @@
-//! Goals whose least number of entries is known.
+//! Entries of the table of goals: a goal with the least number of entries of an inference for it.
 
 use wh_order::Claim;
 use wh_order_trees::Tree;

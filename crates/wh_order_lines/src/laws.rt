@@ -1,4 +1,4 @@
-//! Inferences of lines have texts in certificates.
+//! Laws of lines: good inferences under proper filters have texts in certificates.
 
 ghost use Rattle.wh_terms.specs.Rules.{RewriteRule};
 ghost use Rattle.wh_system.specs.Systems.{SystemData};

@@ -1,4 +1,4 @@
-//! Lines of rules and of pairs under a given order.
+//! Finding the line of a single rule or pair under a given order.
 
 ghost use Rattle.std.specs.Prelude.{◌≡◌, ◌<◌, IfOk, MatchOption, None, Some, length, slice_get};
 ghost use Rattle.wh_terms.specs.Rules.{RewriteRule};

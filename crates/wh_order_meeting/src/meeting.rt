@@ -1,4 +1,4 @@
-//! Whether bits can meet a demand, by a circuit.
+//! Whether bits can meet a demand, by a circuit and a solver. `meet` is the main function.
 
 ghost use Rattle.std.specs.Prelude.{◌≡◌, ◌≤◌, ◌&&◌, ◌||◌, [], IfOk, IfSome, false, length, true};
 ghost use Rattle.wh_circuit.specs.Gates.{IsWire};

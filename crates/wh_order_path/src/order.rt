@@ -1,4 +1,4 @@
-//! The path order on filtered trees, as a relation at the root of steps.
+//! Laws of the path order on filtered trees, as a relation at the root of steps: the main one is `path_order_ends`.
 
 ghost use Rattle.std.specs.Prelude.{ℕ, List, []};
 ghost use Rattle.wh_types.specs.Ty.{Ty};

@@ -1,4 +1,4 @@
-//! Extended terms, built as long as there is room for their nodes.
+//! Extended terms, built as long as there is room for their nodes. `long` is the main function.
 
 ghost use Rattle.std.specs.Prelude.{ℕ, ◌≡◌, [], OnOk};
 ghost use Rattle.wh_terms.specs.Erase.{declared_metas, symbols, tm, tms};

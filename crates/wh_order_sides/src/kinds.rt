@@ -1,4 +1,4 @@
-//! The type that a term has if it is well typed.
+//! The type that a term has if it is well typed. It is found without a test of the arguments.
 
 ghost use Rattle.std.specs.Prelude.{◌≡◌, [], IfOk, OnOk};
 ghost use Rattle.wh_types.specs.Erase.{ty, tys};

@@ -1,4 +1,5 @@
-//! The meta-variables of the extended sides of a rule.
+//! The meta-variables of the extended sides of a rule: those of the rule, and one for each argument that its sides
+//! lack.
 
 ghost use Rattle.std.specs.Prelude.{◌≡◌, ◌++◌, [], IfOk};
 ghost use Rattle.wh_types.specs.Erase.{ty};

@@ -1,4 +1,4 @@
-//! Moving a term below one binder more.
+//! Moving a term below one binder more: its loose variables are counted on.
 
 ghost use Rattle.std.specs.Prelude.{◌≡◌, IfOk, suc};
 ghost use Rattle.wh_terms.specs.Erase.{tm, tms};

@@ -1,4 +1,4 @@
-//! Which bit of a symbol comes first.
+//! The numbering of bits of orders: which bit of a symbol comes first.
 
 ghost use Rattle.std.specs.Prelude.{◌≡◌, ◌+◌, ◌*◌, ◌<◌, ◌≤◌, ◌^◌, ℕ, IfOk, get_or, length};
 ghost use Rattle.wh_order_space.specs.Bits.{first_bit};

@@ -1,4 +1,4 @@
-//! The bits of an order by values of a circuit.
+//! From the values of a circuit to the bits of an order that is worth trying.
 
 use std::alloc::{AllocError, Global};
 use wh_order_demands::Spot;

@@ -1,4 +1,4 @@
-//! Where the bits of all symbols stand.
+//! Spots: where the bits of all symbols and marked symbols stand.
 
 ghost use Rattle.std.specs.Prelude.{◌≡◌, ◌+◌, ℕ, IfOk, OnOk, Some, length, slice_get};
 ghost use Rattle.wh_order_space.specs.Spotted.{AreSpotted, IsNumber, IsSpotted};

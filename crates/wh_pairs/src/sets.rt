@@ -1,4 +1,4 @@
-//! Sets of pairs, made from lists of their numbers.
+//! Sets of pairs, made from lists of their numbers: sorted, each number once.
 
 ghost use Rattle.std.specs.Prelude.{◌≡◌, ◌↔◌, ◌<◌, ℕ, All, Contains, IfOk, IsTrue};
 ghost use Rattle.std.specs.List.Sorted.{IsNonDecreasing};

@@ -1,4 +1,4 @@
-//! When one pair makes another one needless.
+//! Subsumption: when one candidate makes another one of its rule needless.
 
 ghost use Rattle.std.specs.Prelude.{◌≡◌, ◌↔◌, ℕ, IsTrue, map, slice_get, option_map};
 ghost use Rattle.wh_types.specs.Erase.{ty, tys};

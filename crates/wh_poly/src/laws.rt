@@ -1,4 +1,4 @@
-//! Laws of polynomials, each the contract of a function that does nothing.
+//! Laws of polynomials: of sums and products, of their order, and of sums that exceed a limit.
 
 ghost use Rattle.std.specs.Prelude.{ℕ, ◌⊎◌, List, ◌↔◌, ◌≡◌};
 ghost use Rattle.std.specs.declared.cmp.Ordering.TheVariants.{Less, Equal};

@@ -1,4 +1,4 @@
-//! Whether factors stand before what follows them.
+//! Order of neighbours: whether a factor or a monomial stands before the next one, as normal forms ask.
 
 ghost use Rattle.std.specs.Prelude.{◌↔◌, IsTrue};
 ghost use Rattle.wh_poly.specs.Erase.{poly, atoms, polys, sum_of, product_of};

@@ -1,4 +1,4 @@
-//! The variables that a type adds to a scope.
+//! The variables that a type adds to a scope: one for each of its arguments, as polynomials of their own.
 
 ghost use Rattle.std.specs.Prelude.{◌≡◌, ◌+◌, length, IfOk};
 ghost use Rattle.wh_types.specs.Erase.{ty};

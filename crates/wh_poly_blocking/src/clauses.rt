@@ -1,4 +1,4 @@
-//! Blocked clauses, and copies of clauses.
+//! Blocked clauses, which shut out a guess, and copies of clauses.
 
 ghost use Rattle.std.specs.List.{flat_map};
 ghost use Rattle.std.specs.Prelude.{◌≡◌, ◌+◌, ◌-◌, ◌<◌, ◌++◌, All, IfOk, OnOk, length};

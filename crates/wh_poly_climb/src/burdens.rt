@@ -1,4 +1,4 @@
-//! How long it takes to evaluate a condition, as far as its sides tell.
+//! Burdens: how long it takes to evaluate a condition, as far as its sides tell. A climb spends its looks by them.
 
 ghost use Rattle.wh_poly_guesses.specs.Tasks.{IsTaskOf};
 

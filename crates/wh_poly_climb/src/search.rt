@@ -1,4 +1,4 @@
-//! The search for interpretations of a set, by climbing.
+//! The call of a climb for a set, and its answer.
 
 ghost use Rattle.std.specs.Prelude.{◌≤◌, IfOk, length};
 ghost use Rattle.wh_types.specs.Limits.{most_pairs};

@@ -1,4 +1,4 @@
-//! What can be wrong with a node of interpretations.
+//! The faults of a node of interpretations: which condition fails first, and at which symbol, rule or pair.
 
 use wh_poly::Excess;
 use wh_polycheck::CoverFault;

@@ -1,4 +1,4 @@
-//! What a polynomial is worth where two numbers tell what each variable is.
+//! The worth of a polynomial as a number, where two numbers tell what each variable is.
 
 ghost use Rattle.std.specs.Prelude.{◌≡◌, ◌+◌, ◌*◌};
 ghost use Rattle.wh_poly.specs.Erase.{poly, atoms, polys};

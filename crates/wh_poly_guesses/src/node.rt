@@ -1,4 +1,4 @@
-//! The node of interpretations that a guess gives.
+//! From a guess to a node of interpretations, or to a condition that fails under it.
 
 ghost use Rattle.std.specs.Prelude.{◌+◌, ◌≡◌, ◌≢◌, ◌≤◌, [], IfOk, length, map};
 ghost use Rattle.wh_types.specs.Limits.{most_pairs};

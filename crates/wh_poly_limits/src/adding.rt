@@ -1,4 +1,4 @@
-//! The sum of two monomials with the same factors.
+//! The sum of two monomials with the same factors, where two queues of monomials are merged.
 
 ghost use Rattle.std.specs.Prelude.{◌<◌, length, MatchOption};
 ghost use Rattle.wh_poly.specs.Merges.{AddsFirst, FirstOverflows};

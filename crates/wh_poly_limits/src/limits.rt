@@ -1,4 +1,5 @@
-//! The test of a value against the limits.
+//! The test of a value against the limits: coefficients below 2^128, weight at most 65,536, arguments nested at most
+//! 400 deep.
 
 ghost use Rattle.std.specs.Prelude.{◌≡◌, ◌<◌, ◌^◌, IfOk, MatchResult};
 ghost use Rattle.wh_types.specs.Limits.{coefficient_end};

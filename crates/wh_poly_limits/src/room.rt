@@ -1,4 +1,4 @@
-//! What room is left for one more monomial in a product of monomials.
+//! Room in a product of monomials: what it becomes with one more, where that surely stays within the limits.
 
 ghost use Rattle.std.specs.Prelude.{IfSome};
 ghost use Rattle.wh_poly_limits.specs.Rooms.{TakesIn};

@@ -1,4 +1,4 @@
-//! What covers by moves mean.
+//! Laws on covers by moves: a polynomial that covers another one means a number at least as great.
 
 ghost use Rattle.std.specs.Prelude.{List, ◌≤◌, ◌<◌};
 ghost use Rattle.wh_types.specs.Ty.{Ty};

@@ -1,4 +1,4 @@
-//! Ranges made narrower: ends that no interpretation has are cut off.
+//! Narrowing ranges: ends that no interpretation in them has are cut off. `narrow_all` is the main function.
 
 ghost use Rattle.std.specs.Bool.{OnTrue};
 ghost use Rattle.std.specs.Prelude.{◌<◌, IfOk, OnOk};

@@ -1,4 +1,4 @@
-//! The monomials that are tried in a scope, and the polynomials made of them.
+//! The space of interpretations that is tried: sums of few monomials with coefficients of at most 3.
 
 ghost use Rattle.std.specs.Prelude.{ℕ, ◌≡◌, ◌<◌, IfOk, get_or, if◌then◌else◌, length};
 ghost use Rattle.wh_types.specs.Erase.{ty, tys};

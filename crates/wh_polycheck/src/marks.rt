@@ -1,4 +1,4 @@
-//! Marked symbols: what they are read as, and their types.
+//! Marked symbols: their interpretations, and the types of these.
 
 ghost use Rattle.std.specs.Prelude.{◌≡◌, Some, IfOk, length, slice_get, take};
 ghost use Rattle.wh_types.specs.Erase.{ty};

@@ -1,4 +1,5 @@
-//! What the nodes of a termination proof are good for.
+//! Laws of the nodes of a termination proof: where the nodes prove the set of all pairs, every well-typed term is
+//! bounded.
 
 ghost use Rattle.std.specs.Prelude.{ℕ, ◌≡◌, ◌<◌, List, [], ◌∷◌, length, Contains};
 ghost use Rattle.wh_terms.specs.Tree.{Tm, tms_of};

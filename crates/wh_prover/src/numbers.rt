@@ -1,4 +1,4 @@
-//! Lists of numbers.
+//! Lists of numbers as certificates have them.
 
 ghost use Rattle.std.specs.Prelude.{◌≡◌, IfOk};
 

@@ -1,4 +1,4 @@
-//! The walk over the sets of pairs, from the set of all pairs on.
+//! The walk of the search over sets of pairs, from the set of all pairs on. `walk` is the main function.
 
 ghost use Rattle.std.specs.Prelude.{◌≡◌, ◌≤◌, [], IfOk, MatchOption, length, map};
 ghost use Rattle.wh_types.specs.Limits.{most_pairs};

@@ -1,4 +1,4 @@
-//! The laws of lists that refute a formula.
+//! Laws of lists that refute a formula: the formula has no model, and the list has no fault.
 
 ghost use Rattle.wh_refute.specs.Laws.{RefutationsHaveNoFault, RefutationsRefute};
 

@@ -1,4 +1,4 @@
-//! Which literals are true.
+//! The literals that are taken for true while one entry is checked.
 
 ghost use Rattle.std.specs.Prelude.{◌≡◌, ◌++◌, ◌+◌, ◌<◌, ◌^◌, [], ◌∷◌, ℕ, IfOk, List, length};
 ghost use Rattle.wh_sat_trail.specs.Member.{member};

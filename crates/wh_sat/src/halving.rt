@@ -1,4 +1,4 @@
-//! What propagation needs of decisions that clash, found by halving.
+//! The decisions that a conflict needs: those that propagation can do without are left out, by halving.
 
 ghost use Rattle.std.specs.Prelude.{◌≡◌, ◌++◌, OnOk, IfOk, get_or, length, take};
 ghost use Rattle.wh_sat.specs.Learning.{Clash, Reduced, Supposes};

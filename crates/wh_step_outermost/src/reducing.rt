@@ -1,4 +1,5 @@
-//! Reduction by leftmost-outermost steps.
+//! Reduction by leftmost-outermost steps: `reduce` goes on until a normal form, a number of steps or a limit is
+//! reached.
 
 ghost use Rattle.std.specs.Prelude.{◌≡◌, IfOk};
 ghost use Rattle.wh_terms.specs.Typing.{Symbols};

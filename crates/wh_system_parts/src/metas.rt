@@ -1,4 +1,4 @@
-//! The meta-variables of a rule.
+//! The meta-variables of a rule: the tests of their declarations, and the table that numbers them.
 
 ghost use Rattle.std.specs.Prelude.{◌≡◌, ◌<◌, ◌++◌, ◌||◌, [], ◌∷◌, OnOk, length, map};
 ghost use Rattle.wh_text.specs.Erase.{rtys};

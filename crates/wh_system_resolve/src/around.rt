@@ -1,4 +1,4 @@
-//! What the walk over a side passes on.
+//! The state of the walk over a side: the binders that it has passed, and the terms that it has resolved.
 
 use crate::kind::Kind;
 use wh_terms::{Term, Terms};

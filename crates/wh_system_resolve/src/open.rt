@@ -1,4 +1,4 @@
-//! The free variables of a side: it has none.
+//! The test that a side has no free variable.
 
 ghost use Rattle.wh_text.specs.Erase.{rtm, rtms};
 ghost use Rattle.wh_system_parts.specs.Faults.{IsFirstFault};

@@ -1,4 +1,4 @@
-//! The spelling of an argument as an abstraction: an eta step backwards.
+//! Spelling an argument as an abstraction, as a rule wants it: an eta step backwards.
 
 use crate::names::Names;
 use crate::sentence::Piece::Number;

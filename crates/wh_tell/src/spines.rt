@@ -1,4 +1,4 @@
-//! Heads and arguments of terms.
+//! Heads and arguments of terms, for sentences about them.
 
 use std::alloc::{AllocError, Global};
 use wh_terms::{Term, Terms};

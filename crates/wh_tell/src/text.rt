@@ -1,4 +1,4 @@
-//! The text that is built. Nothing is said of it by a clause.
+//! The text that explanations are appended to. No clause says what is in it.
 
 use std::alloc::{AllocError, Global};
 use wh_types::Bytes;

@@ -1,4 +1,4 @@
-//! What becomes of one argument in a pair.
+//! Projections in words: what becomes of one argument in a pair.
 
 use wh_pairs::Pair;
 use wh_subterm::{Relation, relation_at};

@@ -1,4 +1,4 @@
-//! Trees behind argument filters, printed.
+//! Printing trees behind argument filters.
 
 use wh_order_trees::{Tree, Trees};
 use wh_tell::{Names, Text, put_bound, put_meta, put_name};

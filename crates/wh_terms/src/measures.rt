@@ -1,4 +1,5 @@
-//! The height and the size of a term.
+//! The height and the size of a term. The limits on terms speak of both; `limits` tests them in a walk that stops
+//! early.
 
 ghost use Rattle.std.specs.Prelude.{◌≡◌, ◌≤◌, ◌<◌, ◌^◌};
 ghost use Rattle.wh_terms.specs.Erase.{tm, tms};

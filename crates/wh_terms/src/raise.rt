@@ -1,4 +1,4 @@
-//! Moving a term below binders.
+//! Raising a term: it is moved below further binders, and its loose variables are counted on.
 
 ghost use Rattle.std.specs.Prelude.{◌≡◌, ◌+◌, IfOk, IsTrue};
 ghost use Rattle.wh_types.specs.Erase.{ty};

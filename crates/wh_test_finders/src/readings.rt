@@ -1,4 +1,4 @@
-//! What the symbols of a system are read as.
+//! Interpretations of the symbols of a system, from tables.
 
 ghost use Rattle.std.specs.Prelude.{◌≡◌, IfOk, OnOk, map};
 ghost use Rattle.wh_types.specs.Erase.{ty, tys};

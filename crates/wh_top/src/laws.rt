@@ -1,4 +1,4 @@
-//! The laws of answers, each the contract of a function that does nothing.
+//! Laws of answers: of what a check answers on the bytes of a certificate, and on what the search found.
 
 ghost use Rattle.wh_top.specs.Laws.{LoopsAreAccepted, LoopsMeanUnbounded, ProofsAreAccepted, ProofsMeanBounded};
 ghost use Rattle.std.specs.Prelude.{◌≤◌, ℕ, List, length};

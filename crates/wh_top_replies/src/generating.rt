@@ -1,4 +1,4 @@
-//! The search for a proof of a generated system.
+//! The reply to `gen`: the search for a proof of a generated system.
 
 ghost use Rattle.std.specs.Prelude.{◌≡◌, ◌≤◌, ◌++◌, IfOk, List, OnOk, length};
 ghost use Rattle.wh_types.specs.Limits.{most_generated};

@@ -1,4 +1,4 @@
-//! Reducing a term of the system in a file.
+//! The reply to `reduce`: a term of the system in a file is reduced.
 
 ghost use Rattle.std.specs.Prelude.{◌≡◌, ℕ, List, IfOk, codes};
 ghost use Rattle.wh_types.specs.Outcome.{MatchOr};

@@ -1,4 +1,4 @@
-//! Refuting projections for the set of pairs on which the search for a proof is stuck.
+//! The reply to `refute`: projections are refuted for the set of pairs on which the search for a proof is stuck.
 
 ghost use Rattle.std.specs.Prelude.{◌≡◌, ◌≤◌, ◌++◌, ℕ, List, IfOk};
 ghost use Rattle.wh_types.specs.Outcome.{MatchOr};

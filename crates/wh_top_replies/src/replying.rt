@@ -1,4 +1,4 @@
-//! The reply to each command.
+//! The reply to each command: `reply_to` calls the function of the command.
 
 ghost use Rattle.std.specs.Prelude.{◌≡◌, ℕ, List, IfOk};
 ghost use Rattle.wh_top_words.specs.Asked.{bounds_of, request};

@@ -1,4 +1,4 @@
-//! The symbols that terms call, in a table.
+//! The symbols that terms call, entered into a table that has a place for each symbol.
 
 ghost use Rattle.std.specs.Prelude.{◌≡◌, ◌↔◌, ℕ, IsTrue};
 ghost use Rattle.wh_terms.specs.Erase.{tm, tms};

@@ -1,4 +1,4 @@
-//! Numbers, whose bits are wires, the lowest first.
+//! Comparing numbers whose bits are wires, the lowest first.
 
 ghost use Rattle.std.specs.Prelude.{◌≡◌, ℕ, ◌+◌, ◌*◌, ◌<◌, ◌^◌, ◌&&◌, ◌||◌, Bool, IfOk, OnErr, OnOk, length, nat_lt, not};
 ghost use Rattle.wh_circuit.specs.Gates.{AreWires, IsWire, Means};

@@ -1,4 +1,4 @@
-//! The lines of a sheet.
+//! The lines of a sheet of rows, obeyed one by one.
 
 use crate::rows::running::{Faults, Given, SOUND, ended, words_of};
 use crate::rows::spelling::{Named, name_text, number_of, spelled, spelled_each};

@@ -1,4 +1,4 @@
-//! Texts as a sheet spells them.
+//! Texts as a sheet spells them, with names for those that come again.
 
 use std::alloc::{AllocError, Global};
 use wh_types::Bytes;

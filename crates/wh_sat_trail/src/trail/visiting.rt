@@ -1,4 +1,5 @@
-//! The walk through the clauses that watch a literal which has become false.
+//! Visiting the clauses that watch a literal which has become false: each finds another watch, forces a literal or is
+//! false.
 
 ghost use Rattle.std.specs.Bool.{OnTrue};
 ghost use Rattle.std.specs.List.{swap_remove};
