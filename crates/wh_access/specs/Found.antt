@@ -1,4 +1,4 @@
--- What finding ranks tells.
+-- The answer of the search for ranks: ranks that meet all demands, or why there are none.
 use Rattle.std.specs.Prelude.{ℕ, ◌≡◌, ◌<◌, ◌≤◌, ◌↔◌, List, length, All}
 use Rattle.wh_types.specs.Limits.{most_sorts}
 use Rattle.wh_terms.specs.Rules.{RewriteRule}

@@ -1,4 +1,4 @@
--- Demands in tables, and what the walks that fill them tell.
+-- Demands on ranks, kept in tables, and the answers of the walks that fill these tables.
 use Rattle.std.specs.Prelude.{ℕ, ◌≡◌, ◌+◌, ◌*◌, ◌<◌, ◌↔◌, ◌⊎◌, Bool, true, false, IsTrue, List, Option, Some, None, slice_get, slice_index_or}
 use Rattle.wh_types.specs.Limits.{most_sorts}
 use Rattle.wh_types.specs.Ty.{Ty, SortsBelow}

@@ -1,4 +1,4 @@
--- What the values of the reader of YES certificates stand for.
+-- The states of the reader of YES certificates that the values of its code stand for.
 use Rattle.std.specs.Prelude.{ℕ, zero, suc, List, [], drop, map, Option, Some, None}
 use Rattle.wh_cert_letters.specs.declared.letters.Letters.{Letters}
 use Rattle.wh_cert.specs.Written.{blocks}

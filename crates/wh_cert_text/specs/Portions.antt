@@ -1,4 +1,4 @@
--- What several bytes do that are given to a reader at once.
+-- Several bytes given to a reader at once: how far they lead, and which items they end.
 use Rattle.std.specs.Prelude.{ℕ, ◌≡◌, ◌+◌, ◌<◌, ◌≤◌, List, [], ◌∷◌, ◌++◌, length, take, Result, Ok, Err}
 use Rattle.std.specs.Option.{option_map, option_to_list}
 use Rattle.wh_types.specs.declared.want.Or.{Or}

@@ -1,4 +1,4 @@
--- What a certificate of version 1 is in version 2 (ours).
+-- The upgrade of a certificate: what one of version 1 becomes in version 2 (ours).
 use Rattle.std.specs.Prelude.{ℕ, ◌==◌, cond, List, map, Option, Some, None}
 use Rattle.wh_reduction_pairs.specs.TaskData.{numbers_from}
 use Rattle.wh_cert.specs.Written.{Node, interpretations, Cert, yes, no}

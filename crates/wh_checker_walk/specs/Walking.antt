@@ -1,4 +1,4 @@
--- What a walk through a certificate's items has come to (ours).
+-- The state of a check that gets a certificate item by item, and what it says of all certificates that go on so (ours).
 use Rattle.std.specs.Prelude.{ℕ, ◌≡◌, ◌+◌, List, [], ◌∷◌, ◌++◌, length, map, reverse, Result, Ok, Err}
 use Rattle.wh_terms.specs.Erase.{tm}
 use Rattle.wh_terms.specs.declared.path.Step as taken

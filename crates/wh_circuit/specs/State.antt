@@ -1,4 +1,4 @@
--- What others see of a circuit, and how it changes.
+-- The state of a circuit as its callers see it: its gates, its clauses and what is required; and how it grows.
 use Rattle.std.specs.Prelude.{◌≡◌, ℕ, List, length, take}
 use Rattle.wh_sat_trail.specs.declared.literal.Literal.{Literal}
 use Rattle.wh_sat_trail.specs.declared.formula.Formula.{Formula}

@@ -1,4 +1,4 @@
--- What the search by a circuit ends with.
+-- The answers of the search for interpretations of a flat set by a circuit.
 use Rattle.std.specs.Prelude.{ℕ, ◌+◌, ◌*◌, ◌≤◌, ◌≡◌, Bool, Option, Some, None, List, [], ◌∷◌, length}
 use Rattle.wh_system.specs.Systems.{SystemData}
 use Rattle.wh_pairs.specs.PairData.{PairData}

@@ -1,4 +1,4 @@
--- The clauses on the choices of arguments.
+-- The clauses of the formula of projections: one argument of each symbol is chosen, and pairs do not grow.
 use Rattle.std.specs.Prelude.{ℕ, zero, suc, ◌+◌, true, false, List, [], ◌∷◌, ◌++◌, cond, nat_eq, nat_lt, map}
 use Rattle.std.specs.List.{flat_map, range_with_len}
 use Rattle.wh_sat_trail.specs.declared.literal.Literal.{Literal}

@@ -1,4 +1,4 @@
--- Which dependency pair may follow which.
+-- `May`: one dependency pair may follow another. These are the edges of the dependency graph.
 use Rattle.std.specs.Prelude.{ℕ, ◌≡◌, List, Some, slice_get}
 use Rattle.wh_terms.specs.Tree.{Tm}
 use Rattle.wh_terms.specs.Rules.{RewriteRule}

@@ -1,4 +1,4 @@
--- What the evaluation of a part of an expression answers.
+-- The answers of the evaluation of a single part of an expression.
 use Rattle.std.specs.Prelude.{ℕ, ◌+◌, ◌≡◌, List, [], ◌∷◌, ◌++◌, Result, Ok, Err, Some, slice_get}
 use Rattle.wh_types.specs.Ty.{Ty}
 use Rattle.wh_types.specs.Erase.{ty}

@@ -1,4 +1,4 @@
--- What the search for interpretations of a set ends with.
+-- The answers of the search for interpretations of a set by all its means.
 use Rattle.std.specs.Prelude.{ℕ, List, Option, Some, None}
 use Rattle.wh_system.specs.Systems.{SystemData}
 use Rattle.wh_pairs.specs.PairData.{PairData}

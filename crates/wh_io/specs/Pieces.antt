@@ -1,4 +1,4 @@
--- What reading a file piece by piece gives (ours).
+-- Reading a file piece by piece: the state of a reader of pieces, and what its answers say of the file's bytes (ours).
 use Rattle.std.specs.Prelude.{◌≡◌, ℕ, ◌+◌, ◌<◌, ◌≤◌, List, length, take, drop, Option, Some, Result, Ok, Err}
 use Rattle.wh_io.specs.declared.next.Next.{Next}
 use Rattle.wh_io.specs.declared.next.Next.TheVariants.{Bytes, End}

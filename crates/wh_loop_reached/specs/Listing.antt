@@ -1,4 +1,4 @@
--- The list of the terms that were reached.
+-- The list of the terms that a search for loops reached, and what is known of its entries.
 use Rattle.std.specs.Prelude.{ℕ, ◌≡◌, ◌≢◌, ◌≤◌, ◌<◌, List, ◌++◌, ◌+◌, length, map, All, AllPairs, Contains, Option, Some, None, slice_get}
 use Rattle.wh_terms.specs.Tree.{Tm}
 use Rattle.wh_terms.specs.Erase.{tm}

@@ -1,4 +1,4 @@
--- A NO certificate as it is meant: its names are looked up.
+-- The claim of a NO certificate once its names are looked up: a term, steps, a position, and terms for variables.
 use Rattle.std.specs.Prelude.{ℕ, ◌==◌, ◌&&◌, List, [], ◌∷◌, if◌then◌else◌}
 use Rattle.wh_types.specs.Ty.{Ty, same_ty}
 use Rattle.wh_terms.specs.Tree.{Tm, free}

@@ -1,4 +1,4 @@
--- Numbers above all free variables.
+-- A number above the numbers of all free variables of a tree.
 use Rattle.std.specs.Prelude.{ℕ, ◌+◌, max}
 use Rattle.wh_terms.specs.Tree.{Tm, free, meta, lam, app, Tms, none, more}
 

@@ -1,4 +1,4 @@
--- When a NO certificate is valid.
+-- `IsValid`: when the claim of a NO certificate is valid. Its term leads to one that holds an instance of it: a loop.
 use Rattle.std.specs.Prelude.{ℕ, ◌<◌, ◌≡◌, List, [], length, Some, All, AllPairs}
 use Rattle.wh_types.specs.Ty.{SortsBelow}
 use Rattle.wh_terms.specs.Tree.{Tm, bound}

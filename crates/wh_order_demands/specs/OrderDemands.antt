@@ -1,4 +1,4 @@
--- Demands that the bits of every order meet.
+-- Demands that the bits of every order meet, whatever the order is.
 use Rattle.std.specs.Prelude.{ℕ, ◌+◌, ◌≡◌, ◌<◌, Bool, true, false, not, nat_lt, List, Option, None, Some}
 use Rattle.wh_order_inference.specs.Filters.{Filter}
 use Rattle.wh_order_extended.specs.Filtered.{precedences}

@@ -1,4 +1,4 @@
--- What parts demand of bits.
+-- Demands made of a plan, part by part: wherever a part is met, the bits meet its demand.
 use Rattle.std.specs.Prelude.{ℕ, ◌≡◌, ◌⊎◌, Bool, true, List, Option}
 use Rattle.wh_order_inference.specs.Filters.{Filter}
 use Rattle.wh_order_demands.specs.declared.demand.Demand.{Demand}

@@ -1,4 +1,4 @@
--- What a claim about two trees asks of their parts.
+-- Plans: what a claim about two trees asks of their parts, so that it can hold.
 use Rattle.std.specs.Prelude.{ℕ, suc, ◌+◌, ◌≡◌, ◌<◌, ◌⊎◌, ◌||◌, Bool, true, false, List, [], ◌∷◌, map, Option, None, Some, slice_get}
 use Rattle.wh_terms.specs.Tree.{Tm, meta, none}
 use Rattle.wh_terms.specs.Erase.{tm}

@@ -1,4 +1,4 @@
--- What heads a tree, and its arguments.
+-- Views of a tree: what heads it, with the bits of that symbol, and its arguments.
 use Rattle.std.specs.Prelude.{ℕ, ◌≡◌, true, List, length, map, Option, None, Some, slice_get}
 use Rattle.std.specs.Borrow.{Bor}
 use Rattle.wh_terms.specs.Tree.{Tm, fun, head}

@@ -1,4 +1,4 @@
--- Lines of inferences that are found, or shown to be none.
+-- The answers of the search for the inference of a line: one with the fewest entries, or that there is none.
 use Rattle.std.specs.Prelude.{◌≡◌, ◌<◌, ◌≤◌, ◌^◌, List, length, Option, None, MatchOption}
 use Rattle.wh_terms.specs.Typing.{Symbols, Declared}
 use Rattle.wh_terms.specs.Rules.{RewriteRule}

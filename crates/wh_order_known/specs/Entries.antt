@@ -1,4 +1,4 @@
--- Goals whose least number of entries is known.
+-- Entries of the table of goals: what each says of the least number of entries of an inference.
 use Rattle.std.specs.Prelude.{◌≡◌, ℕ, length}
 use Rattle.wh_order_node.specs.Filterings.{FilteringData}
 use Rattle.wh_order_trees.specs.Trees.{tree}

@@ -1,4 +1,4 @@
--- The least of some things.
+-- A thing with the least number of all that have a property, as long as numbers fit in 32 bits.
 use Rattle.std.specs.Prelude.{ℕ, ◌<◌, ◌≤◌, ◌^◌, Option, None, Some}
 
 -- the answer Some a has the least number of all that P holds of, and its number is below 2^32; the answer None says

@@ -1,4 +1,4 @@
--- Demands as circuits.
+-- Demands as circuits: wires that are true where bits meet a demand.
 use Rattle.std.specs.Prelude.{ℕ, ◌≡◌, ◌<◌, Bool, true, List, [], Option, None, Some, get_or, slice_get}
 use Rattle.wh_sat_trail.specs.declared.literal.Literal.{Literal}
 use Rattle.wh_circuit.specs.declared.circuit.Circuit.{Circuit}

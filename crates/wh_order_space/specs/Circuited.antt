@@ -1,4 +1,4 @@
--- What the search for orders by a circuit ends with.
+-- The answers of the circuit over the bits of orders, and the demands that it is made of.
 use Rattle.std.specs.Prelude.{ℕ, ◌≡◌, ◌<◌, Bool, List, Option, None, Some, false, true, length, get_or, slice_get}
 use Rattle.std.specs.Global.{Box}
 use Rattle.wh_types.specs.Ty.{Ty}

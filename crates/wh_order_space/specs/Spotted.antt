@@ -1,4 +1,4 @@
--- Where the bits of symbols stand, by tables of the program.
+-- The spots of symbols: where their bits stand, by tables of the program.
 use Rattle.std.specs.Prelude.{ℕ, ◌+◌, ◌≡◌, ◌<◌, ◌⊎◌, List, Option, None, Some, length, map, get_or, slice_get}
 use Rattle.std.specs.Global.{Vec}
 use Rattle.wh_types.specs.Erase.{tys}

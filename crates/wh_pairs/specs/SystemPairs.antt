@@ -1,4 +1,4 @@
--- The dependency pairs of a system.
+-- `HasPairs`: a list has the dependency pairs of a system, and they are not too many.
 use Rattle.std.specs.Prelude.{◌<◌, ◌≤◌, List, length}
 use Rattle.wh_types.specs.Limits.{most_pairs}
 use Rattle.wh_system.specs.Systems.{SystemData}

@@ -1,4 +1,4 @@
--- What a product that grows has come to.
+-- The product that the code of growing products has come to, and the room that it has left.
 use Rattle.std.specs.Prelude.{ℕ, ◌+◌, ◌*◌, ◌≤◌, ◌<◌, Option, None, Some}
 use Rattle.wh_types.specs.Limits.{coefficient_end, greatest_weight, deepest_value}
 use Rattle.wh_poly.specs.Polynomials.{Polynomial, Factors, plus, zero_poly, Ordered}

@@ -1,4 +1,4 @@
--- What a sum of many polynomials has come to.
+-- The sum that the code of sums of many polynomials has come to.
 use Rattle.std.specs.Prelude.{ℕ, ◌≡◌, ◌+◌, ◌-◌, ◌≤◌, List, [], ◌∷◌, length, max, Option, None, Some}
 use Rattle.wh_types.specs.Limits.{greatest_weight, deepest_value}
 use Rattle.wh_poly.specs.Polynomials.{Polynomial, zero_poly, Ordered}

@@ -1,4 +1,4 @@
--- The literals of a blocked clause.
+-- The literals of a blocked clause: those that are false under the guess.
 use Rattle.std.specs.Prelude.{ℕ, zero, suc, ◌-◌, Bool, not, List, [], ◌∷◌, get_or}
 use Rattle.wh_sat_trail.specs.declared.literal.Literal.{Literal}
 

@@ -1,4 +1,4 @@
--- The numbers of what is used.
+-- The numbers of the symbols that stand in the conditions.
 use Rattle.std.specs.Prelude.{ℕ, ◌+◌, ◌≡◌, ◌↔◌, List, ◌++◌, Some, length, drop, slice_get, Contains}
 use Rattle.std.specs.List.{flat_map}
 use Rattle.std.specs.Global.{Vec}

@@ -1,4 +1,4 @@
--- Readings of which one is at most the other.
+-- Readings that are below others: each polynomial is at most its partner, whatever the variables are.
 use Rattle.std.specs.Prelude.{ℕ, ◌≤◌, ◌≡◌, List, Some, map, slice_get}
 use Rattle.wh_types.specs.Ty.{Ty, arguments}
 use Rattle.wh_terms.specs.Typing.{Symbols}

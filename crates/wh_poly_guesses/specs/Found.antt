@@ -1,4 +1,4 @@
--- What the search for interpretations finds.
+-- The answers of a search for interpretations: a node of the space whose conditions hold.
 use Rattle.std.specs.Prelude.{ℕ, ◌≡◌, ◌^◌, List, Option, Some, None, All, Contains, length, slice_get, false, true}
 use Rattle.wh_system.specs.Systems.{SystemData}
 use Rattle.wh_pairs.specs.PairData.{PairData, IsIncreasing}

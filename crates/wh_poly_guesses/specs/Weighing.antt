@@ -1,4 +1,4 @@
--- What a guess comes to: a node, or a condition that fails.
+-- The outcome of a guess: a node, or a condition that fails.
 use Rattle.std.specs.Prelude.{ℕ, ◌≡◌, List, Option, None, length}
 use Rattle.wh_system.specs.SystemView.{system_data}
 use Rattle.wh_reduction_pairs.specs.TaskView.{task_data}

@@ -1,4 +1,4 @@
--- What the calls that evaluate sides answer.
+-- The answers of the calls that evaluate a side of a rule or of a pair.
 use Rattle.std.specs.Prelude.{List, Bool, map}
 use Rattle.wh_terms.specs.Tree.{Tm}
 use Rattle.wh_terms.specs.Typing.{Symbols, Declared}

@@ -1,4 +1,4 @@
--- What the walk over the sets of pairs keeps true.
+-- The walk of the search over sets of pairs: what holds before and after each node.
 use Rattle.std.specs.Prelude.{ℕ, ◌≡◌, ◌+◌, ◌*◌, ◌^◌, ◌<◌, ◌≤◌, List, [], ◌∷◌, ◌++◌, length, map, reverse, All}
 use Rattle.wh_system.specs.Systems.{SystemData}
 use Rattle.wh_system.specs.SystemView.{system_data}

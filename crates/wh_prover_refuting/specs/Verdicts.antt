@@ -1,4 +1,4 @@
--- What the search for a proof and for a refutation come to.
+-- The outcomes of a search for a proof together with a refutation of projections.
 use Rattle.std.specs.Prelude.{ℕ, ◌≡◌, List}
 use Rattle.wh_terms.specs.Rules.{RewriteRule}
 use Rattle.wh_system.specs.Systems.{SystemData}

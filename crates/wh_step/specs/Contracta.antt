@@ -1,4 +1,4 @@
--- What the parts of a step's result stand for.
+-- The parts of a step's result before it is built: which term they make, and what is known of them.
 use Rattle.std.specs.Prelude.{ℕ, List, [], ◌∷◌, Option, Some, None, All}
 use Rattle.wh_terms.specs.Tree.{Tm, Tms}
 use Rattle.wh_terms.specs.Erase.{tm}

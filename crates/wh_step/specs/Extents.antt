@@ -1,4 +1,4 @@
--- The extents of trees, and what a measuring answers.
+-- The extents of trees (size, height, length of the spine), and the answers of the walks that measure them.
 use Rattle.std.specs.Prelude.{ℕ, ◌≡◌, ◌≤◌, List, [], ◌∷◌, Option, Some, None, Result, Ok, Err}
 use Rattle.wh_types.specs.Limits.{most_arguments, greatest_height, greatest_size}
 use Rattle.wh_types.specs.declared.want.Or.{Or}

@@ -1,4 +1,4 @@
--- Computability of terms by ranks and types.
+-- Computability of terms by ranks of sorts and by types (Tait's method), from which termination follows.
 use Rattle.std.specs.Prelude.{ℕ, zero, suc, ◌≡◌, Bool, true, false, ltb, List, [], ◌∷◌, Some, slice_get}
 use Rattle.wh_types.specs.Ty.{Ty, sort, ◌⇒◌, SortsBelow}
 use Rattle.wh_terms.specs.Tree.{Tm, fun, app, spine}

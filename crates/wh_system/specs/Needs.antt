@@ -1,4 +1,4 @@
--- How many arguments the rules of a symbol need (ours).
+-- How many arguments the rules of a symbol need: those of its left sides (ours).
 use Rattle.std.specs.Prelude.{ℕ, ◌==◌, Bool, true, false, List, [], ◌∷◌, Option, Some, None}
 use Rattle.wh_terms.specs.Tree.{Tm, fun, head, argument_count}
 use Rattle.wh_terms.specs.Rules.{RewriteRule}

@@ -1,4 +1,4 @@
--- What makes a system well made.
+-- Well-made systems: declared sorts, distinct names, well-made rules, and the limits. Every `System` is one.
 use Rattle.std.specs.Prelude.{ℕ, ◌+◌, ◌≤◌, ◌≡◌, ◌≢◌, List, length, map, All, AllPairs}
 use Rattle.wh_types.specs.Limits.{deepest_type, most_sorts, most_symbols, most_rules, most_arguments}
 use Rattle.wh_types.specs.Ty.{Ty, sort, ◌⇒◌, arguments, SortsBelow}

@@ -1,4 +1,4 @@
--- That tables have the names of a system.
+-- Tables of names that number the sorts and symbols of a system.
 use Rattle.std.specs.Prelude.{◌≡◌}
 use Rattle.wh_system.specs.Systems.{SystemData}
 use Rattle.wh_system_making.specs.declared.resolving.NameTables.{NameTables}

@@ -1,4 +1,4 @@
--- Tests in their order, and the first that fails.
+-- Lists of tests in their order, and the first test that fails.
 use Rattle.std.specs.Prelude.{◌≡◌, Bool, true, false, List, [], ◌∷◌, Option, Some, None, Result, MatchResult}
 use Rattle.wh_types.specs.Outcome.{MatchOr}
 use Rattle.wh_types.specs.declared.want.Or.{Or}

@@ -1,4 +1,4 @@
--- Places in a tree: a path is a list of 0 and 1.
+-- Positions in a tree: a path is a list of 0 and 1, and leads to a part.
 use Rattle.std.specs.Prelude.{ℕ, zero, suc, ◌+◌, ◌<◌, List, [], ◌∷◌, Option, Some, None, option_and_then, All}
 use Rattle.wh_terms.specs.Tree.{Tm, free, lam, app}
 use Rattle.wh_terms.specs.Substitution.{opened}

@@ -1,4 +1,4 @@
--- What the text of a proof comes to.
+-- Laws of what the search writes: the check accepts it, and it means what it says.
 use Rattle.std.specs.Prelude.{ℕ, ◌≡◌, List}
 use Rattle.wh_system.specs.Systems.{SystemData}
 use Rattle.wh_pairs.specs.PairData.{PairData}

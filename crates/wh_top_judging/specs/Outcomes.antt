@@ -1,4 +1,4 @@
--- When each answer of a run comes.
+-- When each answer of a run comes, told by the bytes of the two files.
 use Rattle.std.specs.Prelude.{ℕ, ◌≡◌, ◌<◌, ◌≤◌, List, ◌++◌, length, Option, Some}
 use Rattle.wh_types.specs.Limits.{system_limit, certificate_limit}
 use Rattle.wh_io.specs.Outside.{Rose}

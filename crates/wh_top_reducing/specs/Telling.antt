@@ -1,4 +1,4 @@
--- The text that tells how a term of a system reduces.
+-- The text that `reduce` writes: how a term of a system reduces.
 use Rattle.std.specs.Prelude.{ℕ, ◌≡◌, List, [], ◌∷◌, ◌++◌, codes}
 use Rattle.std.specs.Fmt.{decimal}
 use Rattle.wh_terms.specs.Tree.{Tm}

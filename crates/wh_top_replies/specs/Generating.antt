@@ -1,4 +1,4 @@
--- What the search for a proof comes to for a generated system.
+-- The text of `gen`: the outcome of the search for a proof of a generated system.
 use Rattle.std.specs.Prelude.{ℕ, ◌≡◌, ◌++◌, List, [], length, codes}
 use Rattle.std.specs.Fmt.{decimal}
 use Rattle.wh_system.specs.Systems.{SystemData}

@@ -1,4 +1,4 @@
--- The limits, each in one place (ours).
+-- The limits on texts, systems, terms, certificates and values, each in one place (ours).
 use Rattle.std.specs.Prelude.{ℕ, ◌^◌}
 
 -- the greatest length of a system file and of a certificate file, in bytes

@@ -1,4 +1,4 @@
--- First-order trees.
+-- First-order trees: symbols with arguments of sorts, and meta-variables without arguments.
 use Rattle.std.specs.Prelude.{ℕ, ◌≡◌, List, [], ◌∷◌, Some, slice_get}
 use Rattle.wh_types.specs.Ty.{Ty, sort, ◌⇒◌, arguments}
 use Rattle.wh_terms.specs.Tree.{Tm, fun, meta, app, none}

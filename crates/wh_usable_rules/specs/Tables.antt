@@ -1,4 +1,4 @@
--- Tables that say yes of some places.
+-- Tables of truth values by number, of which some places are entered.
 use Rattle.std.specs.Prelude.{ℕ, ◌≡◌, ◌<◌, ◌⊎◌, ◌↔◌, Bool, true, List, length, Some, slice_get}
 
 -- the table says yes of the place
