@@ -111,7 +111,7 @@ fn inaccessible(alloc: Global, number: &str, rest: &[&str]) -> Result<Option<Row
     }
 }
 
-// What is said of a node.
+// The reason that words about a node say.
 fn node_row(alloc: Global, number: &str, rest: &[&str]) -> Result<Option<Row>, AllocError>
     ensures { IfOk result (Reads RowStands row_words (codes "node" ∷ number.now ∷ seen rest.now)) }
 {

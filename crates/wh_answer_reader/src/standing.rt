@@ -1,5 +1,5 @@
-//! That each report is one that can be read back: its numbers have 32 or 64 bits and its names are spelled as names,
-//! since their types say so. The main function is `report_stands`; the functions do nothing when they run.
+//! Each report can be read back: its numbers have 32 or 64 bits and its names are spelled as names, since their types
+//! say so. The main function is `report_stands`; the functions do nothing when they run.
 
 ghost use Rattle.std.specs.Prelude.{◌<◌, ◌^◌};
 ghost use Rattle.wh_text.specs.Words.{IsWord};

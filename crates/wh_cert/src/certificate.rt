@@ -37,9 +37,9 @@ pub enum Node {
     Done,
     /// There is one pair, which may not follow itself.
     Alone,
-    /// By blocks of pairs, none of which leads back to an earlier one; a child for each.
+    /// By blocks of pairs, none of which leads back to an earlier one. It has a child for each block.
     Blocks(Blocks),
-    /// By an argument of each symbol that shrinks in some pairs and never grows; a child for the others.
+    /// By an argument of each symbol that shrinks in some pairs and never grows. It has a child for the other pairs.
     Subterm {
         /// The pairs in which the argument shrinks.
         args: Args,
@@ -90,7 +90,7 @@ pub type Steps = List<Step>;
 pub struct Put {
     /// The number of the variable.
     pub number: u32,
-    /// Its type.
+    /// The type of the variable.
     pub kind: RawType,
     /// The term.
     pub term: RawTerm,

@@ -46,14 +46,14 @@ pub struct OrderLines {
     pub place: OrderPlace,
     /// The name in a line of a filter.
     pub name: Letters,
-    /// Its filter.
+    /// The filter in that line.
     pub filter: FilterText,
     /// The inference in a line.
     pub inference: InferenceText,
 }
 
 impl OrderLines {
-    /// Before all lines.
+    /// The reader before all lines.
     pub fn new(alloc: Global) -> Result<OrderLines, AllocError>
         ensures lines { IfOk result (λ lines. lines_of lines ≡ in_funs []) }
         ensures place { IfOk result (λ lines. lines_place lines ≡ lines_front) }
@@ -67,7 +67,7 @@ impl OrderLines {
         })
     }
 
-    /// Before all lines again.
+    /// Goes back to before all lines.
     pub fn restart(&mut self, alloc: Global) -> Result<(), AllocError>
         ensures lines { OnOk result (lines_of self.new ≡ in_funs []) }
         ensures place { OnOk result (lines_place self.new ≡ lines_front) }

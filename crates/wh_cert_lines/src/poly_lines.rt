@@ -67,7 +67,7 @@ pub struct PolyLines {
 }
 
 impl PolyLines {
-    /// Before all lines.
+    /// The reader before all lines.
     pub fn new(alloc: Global) -> Result<PolyLines, AllocError>
         ensures lines { IfOk result (λ lines. lines_of lines ≡ in_funs []) }
         ensures place { IfOk result (λ lines. lines_place lines ≡ lines_front) }
@@ -83,7 +83,7 @@ impl PolyLines {
         })
     }
 
-    /// Before all lines again.
+    /// Goes back to before all lines.
     pub fn restart(&mut self, alloc: Global) -> Result<(), AllocError>
         ensures lines { OnOk result (lines_of self.new ≡ in_funs []) }
         ensures place { OnOk result (lines_place self.new ≡ lines_front) }

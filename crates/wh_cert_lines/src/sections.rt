@@ -25,11 +25,11 @@ pub enum Section {
 /// Where the first byte of a line leads.
 #[derive(Clone, Copy)]
 pub enum LineBegun {
-    /// It begins a line of the last kind.
+    /// The byte begins a line of the last kind.
     Begins,
-    /// It begins the line of `drop`.
+    /// The byte begins the line of `drop`.
     Drops,
-    /// It is wrong.
+    /// The byte is wrong.
     Wrong,
 }
 
@@ -62,7 +62,7 @@ pub struct Sections<N, L> {
 }
 
 impl<N: Drop, L: Drop> Sections<N, L> {
-    /// Before all lines.
+    /// The lists before all lines.
     pub fn new(alloc: Global) -> Self
         ensures { lines_of result ≡ in_funs [] }
     {
@@ -75,7 +75,7 @@ impl<N: Drop, L: Drop> Sections<N, L> {
         }
     }
 
-    /// Before all lines again.
+    /// Goes back to before all lines.
     pub fn restart(&mut self, alloc: Global) -> Result<(), AllocError>
         ensures { OnOk result (lines_of self.new ≡ in_funs []) }
     {
@@ -137,7 +137,7 @@ impl<N: Drop, L: Drop> Sections<N, L> {
         }
     }
 
-    /// The first byte of a line that is none of a symbol.
+    /// The first byte of a line that is no line of a symbol.
     fn begin_mark(&mut self, alloc: Global, byte: u8) -> Result<LineBegun, AllocError>
         ensures { IfOk result (λ went. begun_went went self.new ≡ mark_step (lines_of self.old) byte) }
     {

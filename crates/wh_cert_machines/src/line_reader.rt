@@ -111,7 +111,7 @@ pub enum LineStep {
 }
 
 impl NoLine {
-    /// Before the certificate's second byte.
+    /// The reader before the certificate's second byte.
     pub fn new(alloc: Global) -> NoLine
         ensures { result.place ≡ Word behind.Term 1 }
     {

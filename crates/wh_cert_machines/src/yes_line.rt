@@ -161,7 +161,7 @@ pub enum YesStep {
 }
 
 impl YesLine {
-    /// Before the certificate's second byte.
+    /// The reader before the certificate's second byte.
     pub fn new(alloc: Global) -> Result<YesLine, AllocError>
         ensures { IfOk result (λ line. line.place ≡ place.Word behind.Version 1) }
     {

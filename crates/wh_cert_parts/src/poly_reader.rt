@@ -63,7 +63,7 @@ pub struct PolyFrame {
 /// A polynomial as far as it was read.
 #[derive(Drop)]
 pub struct PolyText {
-    /// Its open parentheses.
+    /// The open parentheses of the polynomial.
     pub stack: Vec<PolyFrame>,
     /// How far it was read.
     pub place: PolyPlace,
@@ -184,7 +184,7 @@ fn opens(stack: &[PolyFrame], byte: u8) -> bool
 }
 
 impl PolyText {
-    /// Before a polynomial.
+    /// The reader before a polynomial.
     pub fn new(alloc: Global) -> Result<PolyText, AllocError>
         ensures stack { IfOk result (λ text. poly_stack text.stack.items ≡ outside) }
         ensures place { IfOk result (λ text. poly_place text ≡ poly_wanted) }

@@ -26,11 +26,11 @@ const MOST_ARGUMENTS: usize = 32;
 /// An open parenthesis of a term.
 #[derive(Drop)]
 pub enum Frame {
-    /// Of a spine, before its head has ended.
+    /// The parenthesis of a spine, before its head has ended.
     Head,
-    /// Of a spine, with its head and the arguments that have ended.
+    /// The parenthesis of a spine, with its head and the arguments that have ended.
     Spine(Box<RawTerm>, RawTerms),
-    /// Of an abstraction, with its binder.
+    /// The parenthesis of an abstraction, with its binder.
     Body(u32, Box<RawType>),
 }
 
@@ -77,7 +77,7 @@ pub enum TermPlace {
 /// A type as far as it was read, within a term.
 #[derive(Drop)]
 pub struct TypeText {
-    /// Its open parentheses.
+    /// The open parentheses of the type.
     pub stack: Vec<RawTypes>,
     /// What was read since the last open parenthesis.
     pub place: TypePlace,

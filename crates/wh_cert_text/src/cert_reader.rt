@@ -44,7 +44,7 @@ pub struct CertReader {
 }
 
 impl CertReader {
-    /// Before the first byte.
+    /// The reader before the first byte.
     pub fn new(alloc: Global) -> CertReader
         ensures stands { StandsFor result [] }
         ensures items { ItemsIn [] [] }

@@ -42,7 +42,7 @@ pub enum Stretch {
     Wrong(usize),
 }
 
-/// Behind the first byte of a YES certificate.
+/// The reader behind the first byte of a YES certificate.
 pub fn begin_yes(alloc: Global) -> Result<YesItems, AllocError>
     ensures { IfOk result Begun }
 {

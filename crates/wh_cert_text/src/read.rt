@@ -45,7 +45,7 @@ pub struct NoReader {
 }
 
 impl NoReader {
-    /// Behind the first byte.
+    /// The reader behind the first byte.
     fn new(alloc: Global) -> Result<NoReader, AllocError>
         ensures { IfOk result (λ reader. no_standing reader ≡ first_byte 78) }
     {
@@ -155,7 +155,7 @@ pub struct YesReader {
 }
 
 impl YesReader {
-    /// Behind the first byte.
+    /// The reader behind the first byte.
     fn new(alloc: Global) -> Result<YesReader, AllocError>
         ensures { IfOk result (λ reader. yes_standing reader ≡ first_byte 89) }
     {
@@ -248,7 +248,7 @@ pub fn children(node: &Node) -> u64
 /// A certificate so far.
 #[derive(Drop)]
 pub enum Reader {
-    /// Before its first byte.
+    /// The certificate before its first byte.
     Unread,
     /// Within a YES certificate.
     Yes(Box<YesReader>),

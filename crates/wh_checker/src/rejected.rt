@@ -26,9 +26,9 @@ pub enum NodeFault {
         /// The pair.
         pair: u32,
     },
-    /// Of a node `blocks`.
+    /// The fault of a node `blocks`.
     Blocks(BlockFault),
-    /// Of a node `subterm`.
+    /// The fault of a node `subterm`.
     Subterm(SubtermFault),
     /// The list of a node `poly` is not one of rules, each above the one before.
     BadUsable,
@@ -312,7 +312,7 @@ fn at_covering(node: u32, fault: CoveringFault) -> CheckFault
     }
 }
 
-// That the rules that are to be covered are not closed.
+// The rejection where the rules that are to be covered are not closed.
 fn at_open(node: u32, fault: NotClosed) -> Rejected
     ensures { result ≡ at_open node fault }
 {
@@ -342,7 +342,7 @@ fn in_pair_line(node: u32, pair: u32, fault: LineFault) -> CheckFault
     }
 }
 
-// That a value exceeds a limit in the node.
+// The fault where a value exceeds a limit in the node.
 fn in_excess(node: u32, excess: Excess) -> CheckFault
     ensures { result ≡ in_excess node excess }
 {

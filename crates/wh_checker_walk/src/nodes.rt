@@ -31,7 +31,7 @@ pub struct Nodes {
 }
 
 impl Nodes {
-    /// Before the first node, behind the ranks and the number of pairs.
+    /// The check before the first node, behind the ranks and the number of pairs.
     pub fn new(
         alloc: Global,
         system: &System,

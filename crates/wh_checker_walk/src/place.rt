@@ -31,11 +31,11 @@ use wh_types::Or;
 pub enum Place {
     /// No item was taken.
     Before,
-    /// At the nodes of a YES certificate.
+    /// The walk is at the nodes of a YES certificate.
     Nodes(Box<Nodes>),
-    /// At the steps of a NO certificate.
+    /// The walk is at the steps of a NO certificate.
     Steps(Box<Steps>),
-    /// Behind the place of the instance, at what is put for variables.
+    /// The walk is behind the place of the instance, at the terms that are put for variables.
     Puts(Box<Puts>),
     /// The first fault was found.
     Blamed(CheckFault),

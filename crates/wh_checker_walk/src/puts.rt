@@ -29,7 +29,7 @@ pub struct Puts {
 }
 
 impl Puts {
-    /// Before the first line, behind all steps and the place of the instance.
+    /// The check before the first line, behind all steps and the place of the instance.
     pub fn new(
         alloc: Global,
         system: &System,

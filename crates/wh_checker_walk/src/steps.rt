@@ -36,7 +36,7 @@ pub struct Steps {
 }
 
 impl Steps {
-    /// Before the first step.
+    /// The check before the first step.
     pub fn new(alloc: Global, system: &System, raw: &RawTerm) -> Result<Steps, Or<NoFault>>
         ensures { MatchOr result
             (λ new. Leads HasNothing (no_head (rtm raw.now)) (AtSteps (system_data system.now) new))

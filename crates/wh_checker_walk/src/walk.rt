@@ -33,7 +33,7 @@ pub struct Walk {
 }
 
 impl Walk {
-    /// Before the first item.
+    /// The check before the first item.
     pub fn new(alloc: Global) -> Walk
         ensures { (d : SystemData) (ps : List PairData) → StandsFor d ps result [] }
     {

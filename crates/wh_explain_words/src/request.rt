@@ -6,19 +6,19 @@ ghost use Rattle.wh_explain_words.specs.Asked.{Asked, Asks, IsName, Name, asked_
 /// What the words ask for.
 #[derive(Clone, Copy)]
 pub enum Request<'a> {
-    /// To explain the system in the file, by the certificate in the other one or by a search.
+    /// Explain the system in the file, by the certificate in the other file or by a search.
     Explain {
         /// The name of the system file.
         file: &'a str,
         /// The name of the certificate file, if there is one.
         cert: Option<&'a str>,
     },
-    /// To say what is likely not meant in the system in the file.
+    /// Say what is likely not meant in the system in the file.
     Lint {
         /// The name of the system file.
         file: &'a str,
     },
-    /// To draw the dependency graph of the system in the file.
+    /// Draw the dependency graph of the system in the file.
     Graph {
         /// The name of the system file.
         file: &'a str,

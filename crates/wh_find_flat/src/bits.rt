@@ -28,7 +28,7 @@ impl Bits {
         self.firsts[self.sizes.len()] as usize
     }
 
-    /// The first of the two bits of a coefficient, if there is such a one.
+    /// The first of the two bits of a coefficient, if that coefficient is there.
     pub fn of_coefficient(&self, number: usize, place: usize) -> Option<u32>
         ensures { MatchOption result (IsAbsent self.now.sizes.items number place) (IsWrittenAt self.now.sizes.items number place) }
     {

@@ -39,7 +39,7 @@ fn inputs(alloc: Global, count: usize) -> Result<Circuit, AllocError>
     Ok(circuit)
 }
 
-// The place of a symbol among the marked ones, or their number where it is none of them.
+// The place of a symbol among the marked ones, or the number of these where it is no marked one.
 fn place(marked: &[u32], symbol: u32) -> usize
     ensures { result ≡ place_among marked.now symbol }
 {

@@ -3,7 +3,7 @@
 /// One of the numbers that a flat side comes to.
 #[derive(Clone, Copy)]
 pub enum Part {
-    /// Its constant.
+    /// The constant of the side.
     Constant,
     /// The factor of the meta-variable with this number.
     Factor(usize),

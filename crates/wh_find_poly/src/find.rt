@@ -26,8 +26,8 @@ const EVALUATIONS: u64 = 30_000;
 
 const EVALUATIONS_FOR_EACH: u64 = 50;
 
-// How much work the search in ranges has: so much, and so much more for each rule or pair beside each other, since each
-// pair is asked to be covered strictly and that may go through all; and no more than so much.
+// How much work the search in ranges may do: `WORK`, and `WORK_FOR_EACH_TWO` for each two rules or pairs, since each
+// pair is asked to be covered strictly and that may go through all; but at most `MOST_WORK`.
 const WORK: u64 = 30_000;
 
 const WORK_FOR_EACH_TWO: u64 = 15;

@@ -25,7 +25,7 @@ pub fn some_of(alloc: Global, first: u32, count: u32) -> Result<Clause, AllocErr
     Ok(clause)
 }
 
-// That two variables are not both true; the literals stand by their variables, each once.
+// The clause that two variables are not both true; the literals stand in the order of their variables, each once.
 fn not_both(alloc: Global, left: u32, right: u32) -> Result<Clause, AllocError>
     ensures { IfOk result (λ clause. clause ≡ not_both left right) }
 {

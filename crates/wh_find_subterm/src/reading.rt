@@ -13,7 +13,7 @@ use wh_intern_pairs::Numbered;
 use wh_pairs::{Pair, PairSet};
 use wh_subterm::{Choice, Projection};
 
-/// Of each symbol the first argument whose variable is true.
+/// The choice, for each symbol, of the first argument whose variable is true.
 pub fn choices_by(alloc: Global, values: &[bool], rows: &[Row]) -> Result<Projection, AllocError>
     requires few { length values.now < 2 ^ 32 }
     requires rows { All (λ r. r.first + r.need < length values.now) rows.now }

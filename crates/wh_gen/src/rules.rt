@@ -94,7 +94,8 @@ fn mapped_list(alloc: Global, number: u32) -> Result<RawTerm, AllocError>
     cons(alloc, head, tail)
 }
 
-// That list for the first function, and for a further one what the function before it gives of that list.
+// The right side of a function's second rule: for the first function its mapped list, and for a further one the call of
+// the function before it on that list.
 fn second_right(alloc: Global, number: u32) -> Result<RawTerm, AllocError>
     ensures { IfOk result (λ raw. rtm raw ≡ raw_second_right number) }
 {

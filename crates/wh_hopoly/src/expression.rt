@@ -21,7 +21,7 @@ pub enum Expr {
 pub struct Symbol {
     /// The symbol's type.
     pub kind: SimpleType,
-    /// Its polynomial.
+    /// The polynomial of the symbol.
     pub poly: Poly,
 }
 

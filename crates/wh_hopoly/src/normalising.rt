@@ -89,7 +89,7 @@ pub fn normal_call(
     Ok(value.value)
 }
 
-// A number of variables or of arguments. One beyond 32 bits is told as want of memory.
+// A number of variables or of arguments. Where it exceeds 32 bits the answer is want of memory.
 fn count_of(length: usize) -> Result<u32, AllocError>
     ensures { IfOk result (λ count. count ≡ length) }
 {

@@ -49,7 +49,8 @@ pub fn raise_arguments(alloc: Global, ps: &Polys, from: u32, by: u32) -> Result<
     Ok(copies)
 }
 
-// A number beyond 32 bits counts more variables than memory holds, and is told as want of memory.
+// A raised number. Where it exceeds 32 bits there are more variables than memory holds, and the answer is want of
+// memory.
 fn raise_number(x: u32, from: u32, by: u32) -> Result<u32, AllocError>
     ensures { IfOk result (λ r. r ≡ raised from by x) }
 {

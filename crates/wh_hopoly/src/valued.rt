@@ -28,7 +28,7 @@ use wh_types::{Or, SimpleType};
 pub struct Valued {
     /// The value.
     pub value: Poly,
-    /// Its type.
+    /// The type of the value.
     pub kind: SimpleType,
 }
 
@@ -65,7 +65,7 @@ pub fn value_of_symbol(
     ensures ok { IfOk result (Yields (one (renumber (λ i. count + i) (poly reading.now))) (ty kind.now)) }
     ensures fault { IfBecause result (PassesLimit (one (renumber (λ i. count + i) (poly reading.now)))) }
 {
-    // Before it is copied: the numbers of its variables do not count.
+    // The reading is tested before it is copied, since the numbers of its variables do not count.
     if let Err(excess) = check_limits(reading) {
         return Err(Or::Because(excess));
     }

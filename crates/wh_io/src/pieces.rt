@@ -30,7 +30,7 @@ impl Model for Pieces {
 }
 
 impl Pieces {
-    /// Before the first piece of a file of which at most `limit` bytes are wanted.
+    /// The reader before the first piece of a file of which at most `limit` bytes are wanted.
     pub fn new(limit: u64) -> Pieces
         ensures { result ≡ record { limit = limit; given = 0; ended = None } }
     {

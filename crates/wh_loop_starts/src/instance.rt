@@ -151,7 +151,7 @@ fn instance_in(
     Ok(found)
 }
 
-/// An instance of the start in the term; `None` comes exactly where there is none at any place.
+/// An instance of the start in the term; `None` comes exactly where no position has one.
 pub fn find_instance(
     alloc: Global,
     system: &System,

@@ -96,7 +96,8 @@ fn typed_goals<'a>(
     let Some(goals) = greater_goals(alloc, filters, two, letter, place, parts)? else {
         return Ok(None);
     };
-    // To compare types they have to be made, which is dear: that is done only where the letter asks for something.
+    // To compare types they have to be made, which takes long: so they are made only where the letter asks for
+    // something.
     let alike = have_one_type(alloc, two.left, two.right)?;
     if alike { Ok(Some(goals)) } else { Ok(None) }
 }

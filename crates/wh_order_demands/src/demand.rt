@@ -5,7 +5,7 @@
 pub enum Demand {
     /// Nothing.
     Always,
-    /// It cannot be met.
+    /// The demand cannot be met.
     Never,
     /// The bit with this number is set.
     Bit(u32),

@@ -9,7 +9,7 @@ use crate::view::Spot;
 use std::alloc::{AllocError, Global};
 use wh_types::sum;
 
-// Of a symbol with more places nothing is demanded, as there would be too many gates.
+// For a symbol with more places nothing is demanded, as there would be too many gates.
 const MOST_PLACES: u32 = 32;
 
 /// The demand that no symbol picks two places, and none picks a place and keeps one. The bits of every order meet it.

@@ -11,10 +11,10 @@ use crate::view::Spot;
 use std::alloc::{AllocError, Global};
 use wh_types::counted;
 
-// Of more symbols nothing is demanded, as there would be too many gates.
+// For more symbols than this nothing is demanded, as there would be too many gates.
 const MOST_SYMBOLS: usize = 1_000;
 
-// Nor of symbols that are each compared with more.
+// Symbols that are each compared with more symbols than this are left out, too.
 const MOST_NEAR: usize = 40;
 
 /// The demand that precedences are an order, for symbols that a demand compares: of two symbols one has a precedence

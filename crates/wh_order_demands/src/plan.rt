@@ -427,7 +427,7 @@ fn pick_left<'a>(
     put_left(parts, picked, picked, claim, f, right)
 }
 
-// And on the right.
+// Puts the claim for each argument of the symbol on the right, with the bit that it is picked.
 fn pick_right<'a>(
     parts: &mut Parts<'a>,
     claim: Claim,
@@ -470,7 +470,7 @@ fn put_left<'a>(
     Ok(())
 }
 
-// And on the right.
+// Puts the claim for each argument of the symbol on the right, with its two bits.
 fn put_right<'a>(
     parts: &mut Parts<'a>,
     first: u32,

@@ -54,7 +54,7 @@ fn build_by(
     }
 }
 
-// Such inferences for each of the goals.
+// Inferences with the fewest entries for each of the goals; `None` where there are none for one.
 #[cycle(building)]
 fn build_each(
     known: &mut Known<'_>,

@@ -75,7 +75,7 @@ fn bytes_of(word: FilterWord) -> &'static [u8]
 }
 
 impl FilterText {
-    /// Before a filter.
+    /// The reader before a filter.
     pub fn new(alloc: Global) -> FilterText
         ensures { filter_place result ≡ wanted }
     {

@@ -38,11 +38,11 @@ pub enum InferencePlace {
 /// An inference whose parenthesis is open.
 #[derive(Drop)]
 pub struct OpenInference {
-    /// Its letter.
+    /// The letter of the inference.
     pub letter: Letter,
-    /// Its place, 0 where none is written.
+    /// The place of the inference, 0 where none is written.
     pub place: u32,
-    /// Its parts that have ended.
+    /// The parts of the inference that have ended.
     pub parts: Inferences,
 }
 
@@ -142,7 +142,7 @@ fn has_room(stack: &[OpenInference]) -> bool
 }
 
 impl InferenceText {
-    /// Before an inference.
+    /// The reader before an inference.
     pub fn new(alloc: Global) -> Result<InferenceText, AllocError>
         ensures stack { IfOk result (λ text. inference_stack text.stack.items ≡ outside) }
         ensures place { IfOk result (λ text. inference_place text ≡ wanted) }

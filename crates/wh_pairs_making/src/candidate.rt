@@ -148,7 +148,7 @@ fn symbol_of(head: &Term) -> u32
 pub struct LeftSide {
     /// The symbol that heads it.
     pub symbol: u32,
-    /// Its arguments.
+    /// The arguments of the left side.
     pub arguments: Rc<Terms>,
 }
 

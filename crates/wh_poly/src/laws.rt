@@ -48,7 +48,7 @@ pub fn equal_polynomials_compare_as_equal()
     ensures { (p q : Polynomial) → (compare_polynomials p q ≡ Equal) ↔ (p ≡ q) }
 {}
 
-/// Of two polynomials the other way round the order is the reverse.
+/// Two polynomials the other way round compare in the reverse order.
 pub fn comparing_is_reversed()
     ensures { (p q : Polynomial) → compare_polynomials p q ≡ ordering_reverse (compare_polynomials q p) }
 {}

@@ -35,7 +35,7 @@ pub struct Atoms {
 pub struct Atom {
     /// The number of the variable in the scope.
     pub head: u32,
-    /// Its arguments, each in the scope that goes on with the variables of its type.
+    /// The arguments of the variable, each in the scope that goes on with the variables of its type.
     pub args: Polys,
 }
 

@@ -33,7 +33,7 @@ pub struct Growing {
     // The greatest coefficient of the first value.
     greatest: u128,
     coefficient: u128,
-    // In any order.
+    // The factors, in any order.
     factors: Atoms,
     // How much more the factors may weigh.
     left: u32,

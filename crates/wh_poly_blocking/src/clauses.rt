@@ -32,7 +32,7 @@ pub fn clause_of(
     Ok(clause)
 }
 
-// Those on the bits from one to another join.
+// The literals that are false on the bits from `from` up to `to` join.
 fn push_literals(clause: &mut Clause, values: &[bool], from: u32, to: u32) -> Result<(), AllocError>
     ensures { OnOk result (clause.new ≡ clause.old ++ literals_from (value_of values.now) from (to - from)) }
 {

@@ -57,7 +57,7 @@ pub struct Held {
 }
 
 impl Held {
-    /// None is known to have held.
+    /// The table in which no condition is known to have held.
     pub fn new(alloc: Global) -> Result<Held, AllocError> {
         Ok(Held {
             keys: vec![in alloc; 0; SLOTS]?,

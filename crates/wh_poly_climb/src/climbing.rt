@@ -181,7 +181,7 @@ fn try_change<'a>(
     })
 }
 
-// Makes the change, whatever comes of it.
+// Makes the change, whether it betters the score or not.
 fn take<'a>(
     alloc: Global,
     task: &Task<'a>,

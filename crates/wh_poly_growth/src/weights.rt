@@ -36,7 +36,7 @@ fn product_of(weights: &[Weight], factors: &Atoms) -> u128
 {
     let mut product: u128 = 1;
     for item in factors.as_slice() {
-        // Then no further factor makes a difference.
+        // Once the product is 0 no further factor makes a difference.
         if product == 0 {
             return 0;
         }
@@ -52,7 +52,7 @@ fn value_of(weights: &[Weight], variable: u32, arguments: &Polys) -> u128
         (polys arguments.now)) }
 {
     let weight = weight_at(weights, variable);
-    // Then the arguments make no difference.
+    // Where the factor is 0 the arguments make no difference.
     if weight.factor == 0 {
         return u128::from(weight.constant);
     }

@@ -14,7 +14,7 @@ use std::alloc::{AllocError, Global};
 use wh_poly_space::MAX_COEFFICIENT;
 use wh_reduction_pairs::Task;
 
-/// That ends of one kind are cut off for a condition.
+/// A condition, and the kind of ends that are cut off for it.
 #[derive(Clone, Copy)]
 pub struct Cutting {
     pub goal: Goal,

@@ -126,7 +126,7 @@ impl Work {
         Ok(())
     }
 
-    // None waits.
+    // No condition waits any more.
     fn clear(&mut self) {
         self.waiting.clear();
         self.is_waiting.fill(false);

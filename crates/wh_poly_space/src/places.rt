@@ -20,7 +20,8 @@ use wh_types::SimpleType;
 pub struct Place {
     /// The place of the variable alone.
     pub alone: usize,
-    /// Of a functional variable, where its row of products begins; of one of a sort, where it stands in each row.
+    /// For a functional variable, where its row of products begins; for a variable of a sort, where it stands in each
+    /// row.
     pub row: usize,
 }
 

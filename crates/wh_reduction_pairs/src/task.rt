@@ -14,7 +14,7 @@ use wh_system::System;
 pub struct Task<'a> {
     /// The system.
     pub system: &'a System,
-    /// Its dependency pairs.
+    /// The dependency pairs of the system.
     pub pairs: &'a [Pair],
     /// The numbers of the pairs in the set, increasing.
     pub set: &'a [u32],

@@ -65,7 +65,7 @@ fn needed_beside(
     Ok(kept)
 }
 
-/// Of literals that clash beside what is assigned, those that are needed for it. The trail stays.
+/// The literals that are needed for a clash, of literals that clash beside what is assigned. The trail stays.
 #[cycle(halve)]
 pub fn halve(
     alloc: Global,

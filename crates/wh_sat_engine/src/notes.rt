@@ -23,7 +23,7 @@ pub struct Notes {
     stamp: u64,
 }
 
-/// Of a variable: its last value, and the level where it got it; level 0 is before the first decision.
+/// The note on a variable: its last value, and the level where it got it; level 0 is before the first decision.
 #[derive(Clone, Copy)]
 struct Note {
     positive: bool,

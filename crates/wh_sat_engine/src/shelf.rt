@@ -61,7 +61,7 @@ impl Shelf {
         self.names.get(number).copied().unwrap_or(u32::MAX)
     }
 
-    // From how many levels a learnt clause of the trail came.
+    // The number of levels that a learnt clause of the trail came from.
     fn glue(&self, place: usize) -> u64 {
         self.glues.get(place).copied().unwrap_or(0)
     }

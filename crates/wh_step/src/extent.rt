@@ -7,9 +7,9 @@ ghost use Rattle.wh_types.specs.Limits.{most_arguments, greatest_height, greates
 /// The measures of a term that fits.
 #[derive(Clone, Copy)]
 pub struct Extent {
-    /// Its size.
+    /// The size of the term.
     pub size: u32,
-    /// Its height.
+    /// The height of the term.
     pub height: u32,
     /// The number of arguments of the spine that it is.
     pub arguments: u32,

@@ -31,7 +31,7 @@ pub enum Replacement {
 // What a step comes to.
 #[derive(Drop)]
 pub enum Outcome {
-    // It is taken; the size of the result.
+    // The step is taken; this is the size of the result.
     Taken(u64),
     // The step does not apply.
     Nowhere,

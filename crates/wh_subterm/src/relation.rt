@@ -12,7 +12,7 @@ use wh_terms::{Term, Terms, same};
 /// What the chosen arguments of a pair are to one another.
 #[derive(Clone, Copy)]
 pub enum Relation {
-    /// They are the same tree.
+    /// The two arguments are the same tree.
     Equal,
     /// The right one is a proper part of the left one, reached through arguments of spines that symbols head.
     Below,

@@ -30,9 +30,9 @@ const MOST_RULES: usize = 1024;
 /// The symbols of a system by their numbers.
 #[derive(Drop)]
 pub struct Funs {
-    /// Their names.
+    /// The names of the symbols.
     pub names: NameTable,
-    /// Their types.
+    /// The types of the symbols.
     pub kinds: Types,
 }
 

@@ -25,9 +25,9 @@ use wh_types::Or;
 /// The meta-variables of a rule by their numbers.
 #[derive(Drop)]
 pub struct RuleMetas {
-    /// Their names.
+    /// The names of the meta-variables.
     pub names: NameTable,
-    /// Their declarations.
+    /// The declarations of the meta-variables.
     pub declared: Metas,
 }
 

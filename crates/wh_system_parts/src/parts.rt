@@ -15,7 +15,7 @@ pub struct RawName {
 /// A declared symbol.
 #[derive(Drop)]
 pub struct RawFun {
-    /// Its name.
+    /// The name of the symbol.
     pub name: RawName,
     /// The type of the symbol.
     pub kind: RawType,
@@ -24,7 +24,7 @@ pub struct RawFun {
 /// A declared meta-variable of a rule.
 #[derive(Drop)]
 pub struct RawMeta {
-    /// Its name.
+    /// The name of the meta-variable.
     pub name: RawName,
     /// The types in its brackets, which are those of its arguments.
     pub args: RawTypes,
@@ -44,7 +44,7 @@ pub type RawMetas = List<RawMeta>;
 /// A rule.
 #[derive(Drop)]
 pub struct RawRule {
-    /// Its meta-variables, in order.
+    /// The meta-variables of the rule, in order.
     pub metas: RawMetas,
     /// The left side.
     pub left: RawTerm,

@@ -19,7 +19,7 @@ pub struct Around<'a> {
 pub struct Resolved<'a> {
     /// The term.
     pub term: Term,
-    /// Its type.
+    /// The type of the term.
     pub kind: Kind<'a>,
 }
 
@@ -28,6 +28,6 @@ pub struct Resolved<'a> {
 pub struct ResolvedList<'a> {
     /// The terms.
     pub trees: Terms,
-    /// Their types.
+    /// The types of the terms.
     pub kinds: List<Kind<'a>>,
 }

@@ -21,7 +21,7 @@ impl Text {
         }
     }
 
-    /// Its bytes, to be kept. The error is that memory was wanting for some piece.
+    /// The bytes of the text, to be kept. The error is that memory was wanting for some piece.
     pub fn into_bytes(self) -> Result<Bytes, AllocError> {
         let Text { bytes, cut } = self;
         if cut { Err(AllocError) } else { Ok(bytes) }

@@ -54,7 +54,7 @@ fn arguments_of(alloc: Global, kind: &SimpleType) -> Result<Vec<SimpleType>, All
     Ok(kinds)
 }
 
-/// That the polynomials are normal. Want of memory stands for one that is not.
+/// Demands that the polynomials are normal. Want of memory stands for one that is not.
 pub fn demand_normal(alloc: Global, symbols: &[Symbol]) -> Result<(), AllocError>
     ensures { OnOk result (NormalInterpretations (interpretations symbols.now)) }
 {

@@ -33,7 +33,7 @@ enum Finder {
     Order,
 }
 
-/// Who is asked about which pair, and how many clauses may be learnt.
+/// Which finder is asked about which pair, and how many clauses may be learnt.
 #[derive(Clone, Copy)]
 struct Question {
     finder: Finder,

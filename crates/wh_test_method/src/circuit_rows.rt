@@ -229,7 +229,7 @@ const CALLS: &[(Call, &[bool], &[bool], &str)] = &[
     (Call::And, TWO, NOTHING, "0"),
     (Call::Or, TWO, NOTHING, "1"),
     (Call::Or, &[false, false], NOTHING, "0"),
-    // Of nothing.
+    // The calls on no wires.
     (Call::And, NOTHING, NOTHING, "1"),
     (Call::AtLeast, NOTHING, NOTHING, "1"),
     (Call::Or, NOTHING, NOTHING, "0"),

@@ -1,6 +1,6 @@
 //! Rows of the calls of the method over systems that are read from texts: ranks, projections, the graph and its
 //! components. Each value is made in a function of its own, which hands it on by reference, as the outcome that it
-//! comes in: a function that holds several, or takes one out of an outcome, is dear to prove.
+//! comes in: a function that holds several, or takes one out of an outcome, takes the prover long.
 
 ghost use Rattle.std.specs.Prelude.{◌<◌, All, IfOk, length};
 

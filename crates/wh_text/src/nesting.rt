@@ -3,10 +3,10 @@
 ghost use Rattle.std.specs.Prelude.{◌≡◌, nat_lt};
 ghost use Rattle.wh_types.specs.Limits.{deepest_certificate_term, deepest_term};
 
-/// In a system's text terms nest that deep.
+/// How deep terms may nest in a system's text.
 const DEEPEST_TERM: usize = 400;
 
-/// In a certificate terms nest that deep.
+/// How deep terms may nest in a certificate.
 const DEEPEST_CERTIFICATE_TERM: usize = 200;
 
 /// Whether a term in a system's text may open one more level (a parenthesis, a bracket or an abstraction) where

@@ -32,7 +32,7 @@ pub struct Judge {
 }
 
 impl Judge {
-    /// Before the first byte.
+    /// The judge before the first byte.
     pub fn new(alloc: Global) -> Judge
         ensures { (d : SystemData) (ps : List PairData) → HasComeTo d ps result [] }
     {
