@@ -1,6 +1,5 @@
 //! The search for interpretations that let a pair of a set go, by all its means in turn: `interpretation_of` climbs,
 //! asks formulas for flat sets where the climb finds none, and then starts the wider search.
-//! search.
 
 ghost use Rattle.std.specs.Prelude.{◌<◌, ◌≤◌, All, IfOk, IfSome, IsTrue, None, Some, length};
 ghost use Rattle.wh_types.specs.Limits.{most_pairs};

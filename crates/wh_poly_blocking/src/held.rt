@@ -3,7 +3,6 @@
 //! The bits of the symbols in a condition decide whether it holds. This table only says where a search has to look, and
 //! nothing is claimed of it. A condition that fails is told by a look at it, and a guess under which none is found to
 //! fail is looked at as a whole.
-//! fail is looked at as a whole.
 
 use crate::bits::bit;
 use std::alloc::{AllocError, Global};
