@@ -54,7 +54,7 @@ fn answer<R: Env + Files + AllocGlobal>(rt: &R) -> Result<String, AllocError> {
     checked(alloc, &formula, &list)
 }
 
-// What the formula comes to.
+// The word for the answer about the formula.
 fn solved(alloc: Global, formula: Formula) -> Result<String, AllocError>
     requires { Within formula.variables formula.clauses }
 {

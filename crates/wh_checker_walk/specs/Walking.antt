@@ -27,7 +27,7 @@ use Rattle.wh_checker_walk.specs.declared.nodes.Nodes.{Nodes}
 use Rattle.wh_checker_walk.specs.declared.steps.Steps.{Steps}
 use Rattle.wh_checker_walk.specs.declared.puts.Puts.{Puts}
 
--- what is said of a certificate of which these items are left
+-- a property of a certificate of which these items are left
 abbrev pub State : Type 1
 State = Cert → List Item → Type 0
 

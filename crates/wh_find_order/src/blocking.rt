@@ -114,7 +114,7 @@ fn search<'a>(
     }
 }
 
-// The next guess: by chance, where many clauses have joined, or else what the solver comes to.
+// The next guess: by chance, where many clauses have joined, or else by the solver.
 fn next_guess<'a>(
     encoding: &Encoding<'a>,
     chance: &mut Chance,

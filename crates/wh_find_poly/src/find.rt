@@ -21,7 +21,8 @@ use wh_reduction_pairs::{Task, all_rules};
 use wh_sat::Search;
 use wh_system::System;
 
-// How many times the sides of a rule or pair are evaluated in the climb: so often, and so often more for each of them.
+// How many times the sides of a rule or pair are evaluated in the climb: `EVALUATIONS`, and `EVALUATIONS_FOR_EACH` for
+// each rule and pair.
 const EVALUATIONS: u64 = 30_000;
 
 const EVALUATIONS_FOR_EACH: u64 = 50;

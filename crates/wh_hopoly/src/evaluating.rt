@@ -24,7 +24,7 @@ pub struct Setting<'a> {
     pub scope: Scope<'a>,
     /// How many variables the scope has.
     pub count: u32,
-    /// What symbols are read as.
+    /// The interpretations of the symbols.
     pub table: Table<'a>,
 }
 

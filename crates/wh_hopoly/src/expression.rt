@@ -16,7 +16,7 @@ pub enum Expr {
     App(Box<Expr>, Box<Expr>),
 }
 
-/// What a symbol is read as: a polynomial in the scope of its type's arguments.
+/// The interpretation of a symbol: a polynomial in the scope of its type's arguments.
 #[derive(Drop)]
 pub struct Symbol {
     /// The symbol's type.

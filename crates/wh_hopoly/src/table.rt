@@ -1,5 +1,4 @@
-//! What symbols are read as: the interpretations of the symbols, and behind them that of one more function, where there
-//! is one.
+//! Tables of interpretations: those of the symbols, and behind them that of one more function, where there is one.
 
 ghost use Rattle.std.specs.Prelude.{◌≡◌, ◌<◌, length};
 ghost use Rattle.wh_types.specs.Erase.{ty};

@@ -101,7 +101,7 @@ pub fn apply_valued<'a>(
     })
 }
 
-// What a function of this type gives.
+// The type of the result of a function of this type.
 fn codomain(kind: SimpleType) -> SimpleType
     ensures { ty result ≡ result_type (ty kind) }
 {

@@ -11,7 +11,7 @@ use Rattle.wh_step.specs.Replay.{Replays}
 use Rattle.wh_no.specs.Claim.{Put, Claim, put_for}
 use Rattle.wh_no.specs.Unused.{first_unused}
 
--- what is put is a well-typed term of the type of its variable, whose sorts are sorts of the symbols S (ours)
+-- the put is a well-typed term of the type of its variable, whose sorts are sorts of the symbols S (ours)
 pub record IsPutOver (S : Symbols) (p : Put) : Type 0 where
   pub sorts_are_there : SortsBelow S.sorts p.kind
   pub typed : Typed S [] [] p.value p.kind

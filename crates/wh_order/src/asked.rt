@@ -17,8 +17,8 @@ use wh_order_node::Filters;
 use wh_order_trees::{application_of, body_of, have_one_type, same_tree};
 use wh_types::{same_type, sum};
 
-/// What the parts of an inference with this letter, this place and these parts are for, where it is for the goal.
-/// `None` where the letter is not for that, its condition fails, or it compares trees of two types.
+/// The goals of the parts of an inference with this letter, this place and these parts, where it is for the goal.
+/// `None` where the letter is not for that goal, its condition fails, or the inference compares trees of two types.
 pub fn goals_of<'a>(
     alloc: Global,
     filters: &Filters,

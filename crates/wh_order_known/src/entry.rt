@@ -6,7 +6,7 @@ use wh_order_trees::Tree;
 /// The least number of entries of an inference that shows a goal and nests at most `room` deep.
 #[derive(Drop)]
 pub struct Entry {
-    /// What is claimed.
+    /// The claim of the goal.
     pub claim: Claim,
     /// The number for the next variable.
     pub next: u32,
@@ -14,7 +14,7 @@ pub struct Entry {
     pub left: Tree,
     /// The right tree.
     pub right: Tree,
-    /// How deep inferences nest at most.
+    /// How deep the inferences may nest.
     pub room: u8,
     /// The least number of their entries; `None` where it is 2^32 at least.
     pub count: Option<u32>,

@@ -35,7 +35,7 @@ pub struct Growing {
     coefficient: u128,
     // The factors, in any order.
     factors: Atoms,
-    // How much more the factors may weigh.
+    // How much further factors may weigh.
     left: u32,
 }
 

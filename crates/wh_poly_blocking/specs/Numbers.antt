@@ -12,7 +12,8 @@ on_sides u = u.left.items ++ u.right.items
 abbrev pub HaveSame : List ℕ → List ℕ → Type 0
 HaveSame ns ms = (n : ℕ) → Contains ns n ↔ Contains ms n
 
--- the lists have the numbers of what is used in each condition, and at the end those of all behind the rules
+-- the lists have the numbers of the symbols in each condition, and the last list has those of all conditions behind the
+-- rules
 pub record AreNumbers (rules : ℕ) (uses : List Uses) (made : List (Vec ℕ)) : Type 0 where
   pub count : length made ≡ length uses + 1
   pub each : (k : ℕ) (u : Uses) (ns : Vec ℕ) → slice_get uses k ≡ Some u → slice_get made k ≡ Some ns

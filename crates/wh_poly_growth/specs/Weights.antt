@@ -1,4 +1,4 @@
--- Valuations that are told by two numbers for each variable, and what polynomials are worth under them.
+-- Valuations that two numbers give for each variable, and the worth of polynomials under them.
 use Rattle.std.specs.Prelude.{ℕ, zero, suc, ◌+◌, ◌-◌, ◌*◌, ◌^◌, min, List, [], ◌∷◌}
 use Rattle.wh_types.specs.Ty.{Ty, sort, ◌⇒◌}
 use Rattle.wh_poly.specs.Polynomials.{Polynomial, zero_poly, plus, Factors, no_factors, times, Arguments, no_arguments, argument}

@@ -1,4 +1,4 @@
--- The conditions under which readings let a pair of a set go, one by one, and what is used in each.
+-- The conditions under which readings let a pair of a set go, one by one, and which symbols stand in each.
 use Rattle.std.specs.Prelude.{ℕ, ◌+◌, ◌<◌, ◌≡◌, ◌⊎◌, List, Some, length, Bool, true, false, slice_get}
 use Rattle.wh_terms.specs.Tree.{Tm, fun, meta, lam, app, Tms, none, more, tms_of}
 use Rattle.wh_terms.specs.Rules.{RewriteRule}

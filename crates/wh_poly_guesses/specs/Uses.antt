@@ -1,4 +1,4 @@
--- What is used on the sides of a rule or of a pair, as the program lists it.
+-- The symbols that stand on the sides of a rule or of a pair, as the program lists them.
 use Rattle.std.specs.Prelude.{ℕ, ◌+◌, ◌≡◌, ◌⊎◌, ◌↔◌, List, Some, length, Contains, slice_get}
 use Rattle.wh_terms.specs.Rules.{RewriteRule}
 use Rattle.wh_pairs.specs.PairData.{PairData}

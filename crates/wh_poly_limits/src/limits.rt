@@ -39,7 +39,7 @@ pub fn tested(value: Poly) -> Result<Poly, Or<Excess>>
     }
 }
 
-/// What is stored never overflows: a walk that does nothing at run time.
+/// No coefficient that is stored overflows: a walk that does nothing at run time.
 pub fn coefficients_fit(p: &Poly)
     ensures { Overflows (poly p.now) → ⊥ }
 {

@@ -89,7 +89,7 @@ pub record IsRerouted (old : Flow) (place giver first : ℕ) (new : Flow) : Type
   pub flow : (left right : List Monomial) → IsFlow left right old
       → CanGive left right giver (move_at (transfers old.moves.items) place).to → IsFlow left right new
 
--- what is wanted is the same but at one right monomial (ours)
+-- two flows leave the same wanted, but at one right monomial (ours)
 abbrev pub WantsAlike : ℕ → Flow → Flow → Type 0
 WantsAlike root old new = (j : ℕ) → j ≢ root → slice_index new.want.items j ≡ slice_index old.want.items j
 

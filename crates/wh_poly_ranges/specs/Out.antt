@@ -1,4 +1,4 @@
--- What is told of ranges: that no readings in them let a pair go, or that none is lost with what was cut off.
+-- Ranges of coefficients in which no readings let a pair go, and cuts of ranges by which no such readings are lost.
 use Rattle.std.specs.Prelude.{ℕ, ◌≡◌, Bool, false, true, List, Some, length, slice_get, Contains}
 use Rattle.wh_terms.specs.Rules.{RewriteRule}
 use Rattle.wh_pairs.specs.PairData.{PairData}

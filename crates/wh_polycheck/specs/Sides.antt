@@ -1,5 +1,4 @@
--- Sides of rules and of pairs as expressions in the scope of their meta-variables, and what it is that they are
--- covered.
+-- Sides of rules and of pairs as expressions in the scope of their meta-variables, and when moves cover them.
 use Rattle.std.specs.Prelude.{ℕ, suc, ◌-◌, List, [], ◌∷◌, ◌++◌, length, ◌≡◌, Some, slice_get, Contains}
 use Rattle.wh_types.specs.Ty.{Ty, ◌⇒◌}
 use Rattle.wh_terms.specs.Tree.{Tm, bound, free, fun, meta, lam, app, Tms, none, more}

@@ -57,7 +57,7 @@ pub fn refute(
     }
 }
 
-// What a set of which no projection lets a pair go comes to.
+// The verdict on a set of which no projection lets a pair go.
 fn of_set(
     alloc: Global,
     system: &System,

@@ -8,7 +8,7 @@ ghost use Rattle.wh_refute.specs.Told.{IsLook, Tells};
 use crate::truth::Truth;
 use wh_sat_trail::Literal;
 
-/// What a clause gives.
+/// The result of a look at a clause.
 pub enum Look {
     /// All its literals are false.
     False,
@@ -28,7 +28,7 @@ pub fn negation(literal: Literal) -> Literal
     }
 }
 
-/// What the clause gives.
+/// Looks at the clause.
 pub fn look_at(truth: &Truth, clause: &[Literal], variables: u32) -> Look
     requires below { AllBelow variables clause.now }
     requires tells { (t : List Literal) × Tells variables truth.now t }

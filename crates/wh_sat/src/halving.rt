@@ -38,7 +38,7 @@ fn suppose(trail: &mut Trail, literals: &[Literal]) -> Result<bool, AllocError>
     Ok(false)
 }
 
-/// What is needed of the rest beside the literals that are given. The trail stays.
+/// The literals of the rest that are needed beside those that are given. The trail stays.
 #[cycle(halve)]
 fn needed_beside(
     alloc: Global,

@@ -18,7 +18,7 @@ pub struct Learner {
     guide: Guide,
 }
 
-/// What a search ends with.
+/// The answer of a search.
 pub enum Next {
     /// A truth value for each variable, under which all clauses are true.
     Model(Vec<bool>),

@@ -19,7 +19,7 @@ pub enum Outcome {
     Spent(Clauses),
 }
 
-/// What a finder ends with.
+/// The answer of a finder.
 pub enum Search<T> {
     /// The thing that the finder looked for.
     Found(T),

@@ -1,5 +1,5 @@
--- What a part that is put at a place brings to the tree around it: to its height, and to the spine that it joins.
--- Working forms: none of it is told to a caller.
+-- What a part that is put at a position brings to the tree around it: to its height, and to the spine that it joins.
+-- These are working forms, which callers do not see.
 use Rattle.std.specs.Prelude.{ℕ, zero, suc, ◌≡◌, ◌+◌, ◌≤◌, Bool, true, false, List, [], ◌∷◌, Option, Some, None}
 use Rattle.wh_types.specs.Limits.{most_arguments, greatest_height, greatest_size}
 use Rattle.wh_terms.specs.Tree.{Tm, lam, app, argument_count}

@@ -28,7 +28,7 @@ pub enum Replacement {
     PastLimit,
 }
 
-// What a step comes to.
+// The outcome of a step.
 #[derive(Drop)]
 pub enum Outcome {
     // The step is taken; this is the size of the result.

@@ -14,7 +14,7 @@ pub struct Around<'a> {
     pub kind: SimpleType,
 }
 
-/// What a raw term stands for, and its type.
+/// A resolved term: the term that a raw term stands for, and its type.
 #[derive(Drop)]
 pub struct Resolved<'a> {
     /// The term.
@@ -23,7 +23,7 @@ pub struct Resolved<'a> {
     pub kind: Kind<'a>,
 }
 
-/// What raw terms stand for, one after another, and their types.
+/// Resolved terms: those that raw terms stand for, one after another, and their types.
 #[derive(Drop)]
 pub struct ResolvedList<'a> {
     /// The terms.

@@ -109,7 +109,7 @@ fn put_mismatch(text: &mut Text, place: &Place<'_>, wanted: &Wanted, argument: &
     put_expanded(text, place.system, names, wanted, argument, depth);
 }
 
-// What is said of how many variables the abstraction is to have.
+// The words about how many variables the abstraction is to have.
 fn extent(wanted: &Wanted) -> &'static str {
     if wanted.binders > 1 {
         " of several variables"
@@ -118,7 +118,7 @@ fn extent(wanted: &Wanted) -> &'static str {
     }
 }
 
-// What is said of the rules at an argument that is no abstraction.
+// The words about the rules at an argument that is no abstraction.
 fn consequence(argument: &Term) -> &'static str {
     match argument {
         Term::Meta(..) | Term::Bound(_) => "they apply only where an abstraction comes for it.",

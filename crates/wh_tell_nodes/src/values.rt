@@ -31,7 +31,7 @@ use wh_tell_parts::{
 use wh_top_judging::Problem;
 use wh_types::{Or, is_in};
 
-// What is said of lines that don't name what they have to name.
+// The words about lines that don't name what they have to name.
 const NO_LIST: &str =
     "These are not the numbers of rules, each above the one before it, so sides are not told.";
 

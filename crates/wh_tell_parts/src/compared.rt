@@ -32,7 +32,7 @@ pub fn put_compared<'a>(
     }
 }
 
-// What is said of a relation.
+// The words about a relation.
 fn words_of(relation: Relation) -> &'static str {
     match relation {
         Relation::Equal => "it stays the same",

@@ -115,7 +115,7 @@ fn put_letter(text: &mut Text, inference: &Inference) {
     text.say("\n");
 }
 
-// What is said of a letter, before the argument that it names where it names one.
+// The words about a letter, before the argument that it names where it names one.
 fn words_of(letter: Letter) -> &'static str {
     match letter {
         Letter::Same => "they are the same.",

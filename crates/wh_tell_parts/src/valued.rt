@@ -150,7 +150,7 @@ fn units_to(moves: &[Move], number: u32) -> u128 {
     sum
 }
 
-// What is said of the constant on the left of a pair that is dropped.
+// The words about the constant on the left of a pair that is dropped.
 fn words_of(left: &Poly, moves: &[Move]) -> &'static str {
     if spent(moves) < constant(left) {
         "a unit of the constant on the left is left over, as it has to be in a dropped pair"

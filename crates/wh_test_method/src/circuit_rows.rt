@@ -193,7 +193,7 @@ fn told(alloc: Global, circuit: &Circuit, of: &[Wire]) -> Result<String, AllocEr
     Ok(text)
 }
 
-// What a call over inputs of these values comes to.
+// The values of a call's wires over inputs of these values.
 fn come_to(
     alloc: Global,
     call: Call,
@@ -246,7 +246,7 @@ fn circuits_come_to_their_values(rt: HostRuntime) -> Result<(), Fail> {
     Ok(())
 }
 
-// What a circuit comes to that requires an input and its negation.
+// The answer about a circuit that requires an input and its negation.
 fn contradiction(alloc: Global) -> Result<String, AllocError> {
     let mut circuit = Circuit::new(alloc);
     let wire = input(&mut circuit)?;

@@ -73,7 +73,7 @@ most_certificate_arguments = 64
 abbrev pub coefficient_end : ℕ
 coefficient_end = 2 ^ 128
 
--- a normal polynomial that a check evaluates has at most this weight and nests at most so deep
+-- the greatest weight and the greatest nesting of a normal polynomial that a check evaluates
 abbrev pub greatest_weight : ℕ
 greatest_weight = 65536
 
