@@ -29,7 +29,7 @@ pub struct Demands {
 }
 
 impl Demands {
-    /// No demands.
+    /// The tables without demands.
     pub fn new(alloc: Global) -> Result<Self, AllocError>
         ensures { IfOk result (λ demands. (d : _) → d.from < most_sorts → d.to < most_sorts → InTables demands d → ⊥) }
     {

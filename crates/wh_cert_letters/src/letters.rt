@@ -44,7 +44,7 @@ impl Letters {
         Ok(Letters { bytes })
     }
 
-    /// The byte is one more letter, and the name stays within its limit.
+    /// Whether the byte is one more letter of the name, and the name stays within its limit.
     pub fn goes_on(&self, byte: u8) -> bool
         ensures { result ≡ (is_part byte && nat_lt (length self.now) longest_name) }
     {
@@ -69,14 +69,14 @@ impl Letters {
     }
 }
 
-/// A byte that a name begins with.
+/// Whether a name may begin with the byte.
 pub fn begins_name(byte: u8) -> bool
     ensures { result ≡ is_start byte }
 {
     byte.is_ascii_uppercase() || byte.is_ascii_lowercase() || byte == b'_'
 }
 
-/// A byte that a name goes on with.
+/// Whether a name may go on with the byte.
 fn goes_on_name(byte: u8) -> bool
     ensures { result ≡ is_part byte }
 {

@@ -163,7 +163,7 @@ impl NoLine {
         }
     }
 
-    /// Goes on to the place, if there is one.
+    /// Goes on to the place, and answers whether there is one.
     fn goes_to(&mut self, place: Option<LinePlace>) -> bool
         ensures on { OnTrue result (on (line_place self.new) ≡ went_to place self.old) }
         ensures stays { OnFalse result (self.new ≡ self.old) }

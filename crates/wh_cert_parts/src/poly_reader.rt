@@ -137,7 +137,7 @@ fn join_argument(args: &mut Polys, part: Poly) -> Result<(), AllocError>
 }
 
 impl Part {
-    /// Nothing.
+    /// The part before its first monomial.
     fn new(alloc: Global) -> Result<Part, AllocError>
         ensures { IfOk result (λ part. poly part.sum ≡ zero_poly) }
     {

@@ -27,7 +27,7 @@ fn declared(alloc: Global, name: &[u8]) -> Result<RawName, AllocError>
     })
 }
 
-/// The sorts.
+/// The sorts of a generated system.
 pub fn sorts(alloc: Global) -> Result<RawNames, AllocError>
     ensures { IfOk result (λ raw. map rname raw ≡ map raw_name sort_names) }
 {

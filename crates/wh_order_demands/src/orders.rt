@@ -14,7 +14,7 @@ use wh_types::counted;
 // For more symbols than this nothing is demanded, as there would be too many gates.
 const MOST_SYMBOLS: usize = 1_000;
 
-// Symbols that are each compared with more symbols than this are left out, too.
+// Where each symbol that is left is compared with more symbols than this, nothing more is demanded.
 const MOST_NEAR: usize = 40;
 
 /// The demand that precedences are an order, for symbols that a demand compares: of two symbols one has a precedence

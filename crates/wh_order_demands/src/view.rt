@@ -36,7 +36,7 @@ pub enum View<'a> {
     Call(Call<'a>),
     /// A symbol without bits, or one that lacks arguments.
     Unknown,
-    /// Something else than a symbol.
+    /// No symbol heads the tree.
     Other,
 }
 

@@ -42,7 +42,7 @@ pub fn applied(alloc: Global, term: Term, next: u32, kind: &SimpleType) -> Resul
     }
 }
 
-/// Equal declarations.
+/// Copies of the declarations, in order.
 pub fn copy_metas(alloc: Global, metas: &Metas) -> Result<Metas, AllocError>
     ensures { IfOk result (λ copies. declared_metas copies ≡ declared_metas metas.now) }
 {

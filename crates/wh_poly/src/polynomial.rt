@@ -105,7 +105,7 @@ impl Poly {
 impl Atoms {
     ghost use Rattle.wh_poly.specs.Erase.{factors};
 
-    /// No factors.
+    /// The product without factors.
     pub fn new(alloc: Global) -> Atoms
         ensures { factors result ≡ [] }
     {
@@ -152,7 +152,7 @@ impl Atoms {
 impl Polys {
     ghost use Rattle.wh_poly.specs.Erase.{list};
 
-    /// No arguments.
+    /// The list without arguments.
     pub fn new(alloc: Global) -> Polys
         ensures { list result ≡ [] }
     {

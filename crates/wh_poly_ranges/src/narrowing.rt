@@ -166,7 +166,7 @@ fn cut<'a>(
     }
 }
 
-// The lower end goes up by one, if the condition can't be met where the coefficient is there.
+// The lower end goes up by one, if the condition can't be met where the coefficient is there. Answers whether it did.
 fn raise<'a>(
     alloc: Global,
     task: &Task<'a>,
@@ -192,7 +192,7 @@ fn raise<'a>(
     Ok(out)
 }
 
-// The upper end goes down by one, if the condition can't be met where the coefficient is there.
+// The upper end goes down by one, if the condition can't be met where the coefficient is there. Answers whether it did.
 fn lower<'a>(
     alloc: Global,
     task: &Task<'a>,

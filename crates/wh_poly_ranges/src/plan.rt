@@ -12,7 +12,7 @@ use wh_poly_guesses::{Uses, uses_of};
 use wh_reduction_pairs::Task;
 
 /// The plan of a search: the symbols on the two sides of each condition, the conditions on whose left and on whose
-/// right side each symbol stands, and how often a condition is looked at at most.
+/// right side each symbol stands, and the greatest number of looks at one condition.
 #[derive(Drop)]
 pub struct Plan {
     pub uses: Vec<Uses>,

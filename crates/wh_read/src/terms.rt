@@ -353,7 +353,7 @@ pub fn variable_colon(
     }
 }
 
-/// A binder.
+/// The letter where a binder begins.
 pub fn at_binder(rule: Box<OpenRule>, lambda_at: u32, letter: Lexeme) -> Step
     ensures { (parts : RParts) → held.state parts result ≡ r.at_binder parts (held.rule rule) lambda_at (held.letter letter) }
 {

@@ -44,7 +44,7 @@ pub struct Places {
 }
 
 impl Places {
-    /// No clause.
+    /// The places of no clause.
     pub fn new(alloc: Global) -> Places {
         Places {
             items: Vec::new(alloc),

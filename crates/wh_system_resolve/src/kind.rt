@@ -18,7 +18,7 @@ pub enum Kind<'a> {
 }
 
 impl<'a> Kind<'a> {
-    /// The type.
+    /// The type of the part, borrowed.
     pub fn as_type(&self) -> &SimpleType
         ensures { ty result.now ≡ type_of self.now }
     {

@@ -188,7 +188,7 @@ fn judge(
     Ok(Some(is_as_told))
 }
 
-// `finds TEXT`.
+// Whether the last run ended as a line `finds TEXT` says.
 fn finds_front(alloc: Global, sheet: &Sheet, rest: &str) -> Result<bool, AllocError> {
     let front = spelled(alloc, sheet.texts.as_slice(), rest)?;
     let told = sheet.told.as_slice();
@@ -235,7 +235,7 @@ fn sweep(
     }))
 }
 
-// `fronts PIECE TEXT`.
+// Whether runs whose writes fail end as a line `fronts PIECE TEXT` says.
 fn fronts(alloc: Global, sheet: &Sheet, rest: &str) -> Result<bool, AllocError> {
     let (piece, raw) = rest.split_once(' ').unwrap_or((rest, ""));
     let text = spelled(alloc, sheet.texts.as_slice(), raw)?;
