@@ -25,9 +25,9 @@ pub enum Request<'a> {
     },
 }
 
-/// The request that the words behind the program's own name make; `None` exactly where they are none of `FILE`, `FILE
-/// CERT`, `--lint FILE` and `--graph FILE`. A word of several bytes that begins with `-` names a file only behind a
-/// word `--`, and so does an empty word.
+/// The request that the words behind the program's own name make; `None` exactly where they are not `FILE`, `FILE
+/// CERT`, `--lint FILE` or `--graph FILE`. A word of several bytes that begins with `-` names a file only behind a word
+/// `--`, and so does an empty word.
 pub fn read_request(words: &[String]) -> Option<Request<'_>>
     ensures { MatchOption result ((asked : Asked) → Asks (map string_bytes words.now) asked → ⊥)
         (λ request. Asks (map string_bytes words.now) (asked_by request)) }

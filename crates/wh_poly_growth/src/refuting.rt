@@ -14,7 +14,7 @@ use wh_poly::{Atoms, Poly};
 const GREAT: u64 = 1_000_000;
 
 /// Whether under some of a few weights, for `variables` variables, the left polynomial is worth less than the right
-/// one, or, where it is to be greater, no more. Each worth is told as at most the greatest number of 128 bits, and a
+/// one, or, where it is to be greater, no more. Each worth is computed up to the greatest number of 128 bits, and a
 /// left one of that number shows nothing.
 pub fn is_refuted(
     alloc: Global,

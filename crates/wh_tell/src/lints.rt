@@ -66,7 +66,7 @@ fn lint_list(text: &mut Text, place: &Place<'_>, items: &Terms, depth: u32) {
     }
 }
 
-// Looks at the last argument of a spine: each argument is the last one of a front part of the spine.
+// Looks at the last argument of a spine. Each argument of a spine is the last one of a beginning of it.
 fn lint_spine(text: &mut Text, place: &Place<'_>, term: &Term, depth: u32) {
     let Term::App(_, argument) = term else {
         return;

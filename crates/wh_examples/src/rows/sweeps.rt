@@ -4,7 +4,7 @@ use crate::rows::running::{Faults, Given, SOUND, ended, words_of, writes};
 use std::alloc::{AllocError, Global};
 use wh_types::Bytes;
 
-/// Whether each proper front part of the certificate is rejected at its end.
+/// Whether each proper beginning of the certificate is rejected at its end.
 pub fn rejects_cuts(alloc: Global, given: &Given, certificate: &[u8]) -> Result<bool, AllocError> {
     for length in 0..certificate.len() {
         let line = format!(in alloc; "REJECTED syntax {length}\n")?;
