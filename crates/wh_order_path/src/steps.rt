@@ -38,8 +38,8 @@ pub fn filtered_calls_end()
         → Ends (StepOver (OrderRoot F prec)) (filtered_call S Φ [] f ts) }
 {}
 
-/// Where the inference of a pair is good, an instance of its left side comes to that of its right side, behind filters;
-/// in one step or more where the inference is not that of equal trees.
+/// Where the inference of a pair is good, zero or more steps lead from an instance of its left side to that of its
+/// right side, behind filters; one or more where the inference is not that of equal trees.
 pub fn good_pairs_are_filtered_steps()
     ensures { (S F : Symbols) (Φ : ℕ → Filter) (prec : ℕ → ℕ) (rules : List RewriteRule) (M : List Declared) (f g : ℕ) (cs ds : List Ty)
         (ls rs ts us : List Tm) (i : Inference) (b : ℕ → Body) → AreOriented S F Φ prec rules → FitsMark S F Φ f cs

@@ -63,7 +63,7 @@ pub fn listing_node_of_guess<'a>(
     weighed(alloc, task, usable, &readings)
 }
 
-// What readings come to; the node lists these rules, or none.
+// The outcome of readings; the node lists these rules, or none.
 fn weighed<'a, 'b>(
     alloc: Global,
     task: &Task<'a>,

@@ -112,7 +112,7 @@ fn pair_outcome<'a>(
     Ok(Outcome { wanting, strict })
 }
 
-// What is told where a value exceeds a limit.
+// The outcome where a value exceeds a limit.
 fn exceeding() -> Outcome {
     Outcome {
         wanting: EXCEEDING,

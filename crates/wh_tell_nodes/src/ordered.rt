@@ -1,4 +1,4 @@
-//! Nodes of path orders: the sides of rules and pairs are filtered, and each inference is told.
+//! Nodes of path orders: the sides of rules and pairs are filtered, and each inference is put into words.
 
 ghost use Rattle.std.specs.Prelude.{◌<◌, All, Contains, IfOk, IsTrue, length, map};
 ghost use Rattle.wh_system.specs.SystemView.{system_data};

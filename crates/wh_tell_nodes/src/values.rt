@@ -1,5 +1,5 @@
-//! Nodes of interpretations: the sides of rules and pairs are evaluated under the polynomials of the node, and
-//! each line is told.
+//! Nodes of interpretations: the sides of rules and pairs are evaluated under the polynomials of the node, and each
+//! line is put into words.
 
 ghost use Rattle.std.specs.Prelude.{◌≡◌, ◌<◌, ℕ, All, Contains, IfOk, IsTrue, Some, length, map, slice_get};
 ghost use Rattle.wh_system.specs.SystemView.{system_data};

@@ -1,7 +1,7 @@
 //! The walk that puts trees for variables.
 //!
 //! Opening, closing, substitution and the insertion of a body are one walk. It never opens a binder: it carries the
-//! number of binders that it has passed, and what takes a variable's place is told for that number.
+//! number of binders that it has passed, and asks for what takes a variable's place under that number.
 
 ghost use Rattle.std.specs.Prelude.{◌≡◌, ◌+◌, ℕ, IfOk};
 ghost use Rattle.wh_terms.specs.Erase.{tm, tms};
