@@ -19,10 +19,10 @@ use std::rt::Env;
 use wh_io::{FileShelf, StdSink};
 use wh_top::{report_no_memory, run};
 
-/// Why the words could not be had.
+/// Why the words of the command line could not be had.
 #[derive(Drop)]
 enum Unusable {
-    /// One of them is no text.
+    /// One of the words is no text.
     NoText,
     /// There was no memory for them.
     NoMemory,

@@ -58,7 +58,7 @@ fn words<R: Env + AllocGlobal>(rt: &R) -> Result<Vec<String>, Or<Report>> {
     Ok(words)
 }
 
-/// What is said to the words.
+/// The reply to the words.
 fn reply_to<S: Shelf>(alloc: Global, shelf: &mut S, words: &[String]) -> Result<Reply, AllocError> {
     let Some(request) = read_request(words) else {
         return told(alloc, &Report::BadWords);
@@ -78,7 +78,7 @@ fn reply_to<S: Shelf>(alloc: Global, shelf: &mut S, words: &[String]) -> Result<
     }
 }
 
-/// The answer that is told in a line, as by wanda.
+/// The answer as a line, as wanda writes it.
 fn told(alloc: Global, report: &Report) -> Result<Reply, AllocError> {
     Ok(Reply {
         status: status_of(report),

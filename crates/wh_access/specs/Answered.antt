@@ -1,4 +1,4 @@
--- What the walks through rules answer.
+-- The answers of the walks through rules: the first meta-variable that is not read, or none.
 use Rattle.std.specs.Prelude.{ℕ, ◌≡◌, ◌<◌, ◌↔◌, Bool, IsTrue, List, Option, Some, None}
 use Rattle.wh_terms.specs.Tree.{Tm}
 use Rattle.wh_terms.specs.Typing.{Symbols}

@@ -31,11 +31,11 @@ IsAskedAt S p d = (a b : Ty) × (slice_get S.funs p.symbol ≡ Some b) × (slice
 abbrev pub IsAskedOn : Symbols → List Place → Demand → Type 0
 IsAskedOn S way d = (p : Place) × Contains way p × IsAskedAt S p d
 
--- it is demanded on the way to z in the left side of the rule, where z is used in the right side
+-- the demand is one on the way to z in the left side of the rule, where z is used in the right side
 abbrev pub IsAskedFor : Symbols → RewriteRule → ℕ → Demand → Type 0
 IsAskedFor S r z d = Occurs z r.right × ((way : List Place) × (reading_of r.left z ≡ Some way) × IsAskedOn S way d)
 
--- it is demanded on the way to a meta-variable of a right side
+-- the demand is one on the way to a meta-variable of a right side
 abbrev pub IsDemand : Symbols → List RewriteRule → Demand → Type 0
 IsDemand S rules d = (r : RewriteRule) × Contains rules r × ((z : ℕ) × IsAskedFor S r z d)
 

@@ -1,4 +1,4 @@
--- What finding ranks tells.
+-- The answer of the search for ranks: ranks that meet all demands, or why there are none.
 use Rattle.std.specs.Prelude.{ℕ, ◌≡◌, ◌<◌, ◌≤◌, ◌↔◌, List, length, All}
 use Rattle.wh_types.specs.Limits.{most_sorts}
 use Rattle.wh_terms.specs.Rules.{RewriteRule}
@@ -31,7 +31,7 @@ IsCycleIn demands n (Cycle sorts) = IsCycle (LeadsBelow demands n) (LeadsStrictl
 abbrev pub HasDemands : SystemData → Demands → Type 0
 HasDemands d demands = (e : Demand) → e.from < most_sorts → e.to < most_sorts → InTables demands e ↔ IsDemand d.symbols d.rules e
 
--- so many ranks that meet the demands in the tables, none above 255
+-- one rank for each of the sorts, none above 255, which meet the demands in the tables
 pub record MeetTold (demands : Demands) (sorts : ℕ) (ranks : List ℕ) : Type 0 where
   pub count : length ranks ≡ sorts
   pub low : All (λ r. r ≤ 255) ranks

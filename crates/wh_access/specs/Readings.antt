@@ -40,7 +40,7 @@ abbrev pub readings_of_left : Tm → List Reading
 readings_of_left (app t u) = readings_of_left t ++ readings u
 readings_of_left _ = []
 
--- the first way, or else what comes after
+-- the way where it is given, or else the rest
 abbrev pub first_way : Bool → List Place → Option (List Place) → Option (List Place)
 first_way true way rest = Some way
 first_way false way rest = rest

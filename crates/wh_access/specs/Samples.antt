@@ -1,4 +1,4 @@
--- Small systems, for the tests.
+-- Small systems on which the definitions of ranks are tested.
 use Rattle.std.specs.Prelude.{ℕ, List, [], ◌∷◌}
 use Rattle.wh_types.specs.Ty.{sort, ◌⇒◌}
 use Rattle.wh_terms.specs.Tree.{Tm, bound, fun, meta, lam, app, none, more}

@@ -26,7 +26,7 @@ pub record Begun (P : ℕ → ℕ → Type 0) (n goal : ℕ) (xs : List Source) 
   -- P leads from each but the first to an earlier one
   pub earlier : (k : ℕ) → 0 < k → k < length xs → next_at xs k < k
   pub linked : (k : ℕ) → 0 < k → k < length xs → P (sort_at xs k) (sort_at xs (next_at xs k))
-  -- and each sort from which P leads to an entry before number `at` has an entry
+  -- each sort from which P leads to an entry before number `at` has an entry
   pub closed : (k s : ℕ) → k < at → k < length xs → s < n → P s (sort_at xs k) → Lists xs s
 
 -- the list is whole

@@ -1,4 +1,4 @@
--- Demands in tables, and what the walks that fill them tell.
+-- Demands on ranks, kept in tables, and the answers of the walks that fill these tables.
 use Rattle.std.specs.Prelude.{ℕ, ◌≡◌, ◌+◌, ◌*◌, ◌<◌, ◌↔◌, ◌⊎◌, Bool, true, false, IsTrue, List, Option, Some, None, slice_get, slice_index_or}
 use Rattle.wh_types.specs.Limits.{most_sorts}
 use Rattle.wh_types.specs.Ty.{Ty, SortsBelow}
@@ -29,7 +29,7 @@ LeadsIn demands s t = (b : Bool) × InTables demands (record { from = s; to = t;
 abbrev pub LeadsStrictlyIn : Demands → ℕ → ℕ → Type 0
 LeadsStrictlyIn demands s t = InTables demands (record { from = s; to = t; strict = true })
 
--- the same among the sorts below n
+-- a demand in the tables leads from s to t, which are sorts below n, and a strict one does
 abbrev pub LeadsBelow : Demands → ℕ → ℕ → ℕ → Type 0
 LeadsBelow demands n s t = (s < n) × (t < n) × LeadsIn demands s t
 
@@ -44,12 +44,12 @@ Grows old new A = (d : Demand) → d.from < most_sorts → d.to < most_sorts →
 abbrev pub SortsWithin : ℕ → Symbols → Type 0
 SortsWithin n S = (f : ℕ) (b : Ty) → slice_get S.funs f ≡ Some b → SortsBelow n b
 
--- at true z is read, and what is asked on the way has joined; at false z is not read, and nothing has joined
+-- at true z is read, and the demands on the way to it have joined; at false z is not read, and nothing has joined
 abbrev pub TellsAsked : Symbols → ℕ → List Reading → Demands → Demands → Bool → Type 0
 TellsAsked S z rs old new true = (way : List Place) × (way_to z rs ≡ Some way) × Grows old new (IsAskedOn S way)
 TellsAsked S z rs old new false = (way_to z rs ≡ None) × (new ≡ old)
 
--- at None what is asked for each meta-variable of the rule has joined
+-- at None the demands on the ways to all meta-variables of the rule have joined
 abbrev pub TellsAskedByRule : Symbols → RewriteRule → Demands → Demands → Option ℕ → Type 0
 TellsAskedByRule S r old new None = Grows old new (λ d. (z : ℕ) × IsAskedFor S r z d)
 TellsAskedByRule S r old new (Some z) = Unit {0}

@@ -1,4 +1,4 @@
-//! Whether a system is passing under ranks.
+//! Whether a system is passing under ranks: `check_ranks` is the test that a YES certificate must pass first.
 
 ghost use Rattle.std.specs.Prelude.{◌≡◌, ◌↔◌, ◌<◌, ◌^◌, IsTrue, IfErr, OnOk, length};
 ghost use Rattle.wh_access.specs.Passing.{IsFirstBreakIn, IsPassing, Passes};
@@ -89,7 +89,7 @@ fn is_open_in_left(signature: &Signature, ranks: &Ranks, left: &Term, meta: u32)
     }
 }
 
-// The same of the readings in a pattern.
+// Whether the first reading of the meta-variable in a pattern has a way of accessible places; `None` if there is none.
 fn is_open(signature: &Signature, ranks: &Ranks, pattern: &Term, meta: u32) -> Option<bool>
     requires { nesting (tm pattern.now) < 2 ^ 30 }
     ensures { TellsOpen (symbols signature.now) (rank_of ranks.now) meta (readings (tm pattern.now)) result }

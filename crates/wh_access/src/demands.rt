@@ -1,4 +1,5 @@
-//! What the places that are passed demand of the ranks.
+//! What the places that are passed demand of the ranks: which sorts must have at most the rank of which others, or
+//! less.
 
 ghost use Rattle.std.specs.Prelude.{◌≡◌, ◌↔◌, ◌<◌, ◌^◌, IfOk, IsTrue, length, true};
 ghost use Rattle.wh_types.specs.Limits.{most_sorts};
@@ -28,7 +29,7 @@ pub struct Demands {
 }
 
 impl Demands {
-    /// No demands.
+    /// The tables without demands.
     pub fn new(alloc: Global) -> Result<Self, AllocError>
         ensures { IfOk result (λ demands. (d : _) → d.from < most_sorts → d.to < most_sorts → InTables demands d → ⊥) }
     {
@@ -70,8 +71,8 @@ impl Demands {
     }
 }
 
-/// Adds what the rule demands: what is asked on the way to each meta-variable of its right side. If one of these is not
-/// read in the left side, the answer is the least.
+/// Adds what is demanded on the way to each meta-variable of the rule's right side. Where the left side does not read
+/// some of these, the answer is the least of them.
 pub fn ask_rule(signature: &Signature, demands: &mut Demands, rule: &Rule) -> Option<u32>
     requires sorts { SortsWithin most_sorts (symbols signature.now) }
     requires few { length rule.now.metas < 2 ^ 32 }
@@ -88,7 +89,7 @@ pub fn ask_rule(signature: &Signature, demands: &mut Demands, rule: &Rule) -> Op
     None
 }
 
-// Adds what is asked on the way to the meta-variable in a left side; false where it is not read there.
+// Adds what is demanded on the way to the meta-variable in a left side; false where the left side does not read it.
 fn ask_left(signature: &Signature, demands: &mut Demands, left: &Term, meta: u32) -> bool
     requires sorts { SortsWithin most_sorts (symbols signature.now) }
     requires nested { nesting (tm left.now) < 2 ^ 30 }
@@ -103,7 +104,7 @@ fn ask_left(signature: &Signature, demands: &mut Demands, left: &Term, meta: u32
     }
 }
 
-// The same in a pattern.
+// Adds what is demanded on the way to the meta-variable in a pattern; false where the pattern does not read it.
 fn ask_in(signature: &Signature, demands: &mut Demands, pattern: &Term, meta: u32) -> bool
     requires sorts { SortsWithin most_sorts (symbols signature.now) }
     requires nested { nesting (tm pattern.now) < 2 ^ 30 }

@@ -1,4 +1,4 @@
-//! Ranks under which a system is passing.
+//! The search for ranks under which a system is passing. `find_ranks` gathers the demands of all rules and meets them.
 
 ghost use Rattle.std.specs.Prelude.{◌≡◌, ◌≤◌, All, IfOk, length};
 ghost use Rattle.wh_types.specs.Limits.{greatest_number, most_sorts};
@@ -23,8 +23,8 @@ pub enum NoRanks {
         /// The meta-variable, by its number.
         meta: u32,
     },
-    /// Each is read, and demands lead from each of these sorts to the next and from the last to the first, at least one
-    /// of them a strict one.
+    /// Each meta-variable of a right side is read, and demands lead from each of these sorts to the next and from the
+    /// last to the first. At least one of these demands is strict.
     Cycle(Numbers),
 }
 
@@ -32,9 +32,9 @@ pub enum NoRanks {
 ///
 /// # Errors
 ///
-/// `Unread` names the first rule, and in it the least meta-variable by number, whose right side uses what the left side
-/// is not read for. Where all is read, `Cycle` lists the sorts of a cycle of demands, each once, of which at least one
-/// is strict: no ranks meet these.
+/// `Unread` names the first rule, and in it the least meta-variable by number, whose right side uses what its left side
+/// does not read. Where all is read, `Cycle` lists the sorts of a cycle of demands, each once, of which at least one is
+/// strict: no ranks meet these.
 pub fn find_ranks(alloc: Global, system: &System) -> Result<Ranks, Or<NoRanks>>
     ensures passing { IfOk result (IsPassing (system_data system.now)) }
     ensures each { IfOk result (λ ranks. length ranks ≡ (system_data system.now).symbols.sorts) }

@@ -1,4 +1,4 @@
-//! Laws of ranks, each the contract of a function that does nothing.
+//! Laws of ranks: a strict cycle of demands leaves none, and rules are passing or have a first break.
 
 ghost use Rattle.std.specs.Prelude.{◌⊎◌, List, ℕ};
 ghost use Rattle.wh_terms.specs.Rules.{RewriteRule};

@@ -1,4 +1,4 @@
-//! Whether a meta-variable occurs in a term.
+//! Whether a meta-variable occurs in a term, which the tests of ranks ask of right sides.
 
 ghost use Rattle.std.specs.Prelude.{◌↔◌, IsTrue};
 ghost use Rattle.wh_terms.specs.Erase.{tm, tms};
@@ -19,7 +19,7 @@ pub fn occurs(meta: u32, term: &Term) -> bool
     }
 }
 
-// The same of the terms of a list.
+// Whether the meta-variable of that number occurs in one of the terms of the list.
 #[cycle(occurrence)]
 fn occurs_in(meta: u32, items: &Terms) -> bool
     ensures { IsTrue result ↔ OccursIn meta (tms items.now) }

@@ -21,7 +21,7 @@ pub struct Place {
     pub index: u32,
 }
 
-/// The place of what comes next after the spine, if a symbol heads it.
+/// The place of the argument that comes next behind the spine, if a symbol heads the spine.
 pub fn place_after(spine: &Term) -> Option<Place>
     requires { nesting (tm spine.now) < 2 ^ 30 }
     ensures { MatchOption result (symbol_of (head (tm spine.now)) ≡ None)
@@ -42,7 +42,7 @@ pub fn place_after(spine: &Term) -> Option<Place>
     }
 }
 
-/// The type of the argument of that index; `None` where there are not so many.
+/// The type of the argument with that index, counted from 0; `None` where the type has fewer arguments.
 pub fn argument_at(kind: &SimpleType, index: u32) -> Option<&SimpleType>
     ensures { option_map (λ r. ty r.now) result ≡ slice_get (arguments (ty kind.now)) index }
 {

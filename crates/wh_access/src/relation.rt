@@ -1,11 +1,11 @@
-//! Relations between sorts, as tables.
+//! Relations between sorts, as tables with a truth value for each two sorts.
 
 ghost use Rattle.std.specs.Prelude.{◌≡◌, ◌*◌, length};
 ghost use Rattle.wh_types.specs.Limits.{most_sorts};
 
 use std::alloc::{AllocError, Global};
 
-// There are at most so many sorts.
+// The greatest number of sorts of a system.
 const SORTS: usize = 256;
 
 /// A relation between sorts.
@@ -28,7 +28,7 @@ impl Relation {
         })
     }
 
-    /// The one sort becomes related to the other.
+    /// The sort `from` becomes related to the sort `to`.
     pub fn insert(&mut self, from: u32, to: u32)
         requires from { from < most_sorts }
         requires to { to < most_sorts }
@@ -38,7 +38,7 @@ impl Relation {
         self.held[from as usize * SORTS + to as usize] = true;
     }
 
-    /// Whether the one sort is related to the other.
+    /// Whether the sort `from` is related to the sort `to`.
     pub fn holds(&self, from: u32, to: u32) -> bool
         requires from { from < most_sorts }
         requires to { to < most_sorts }

@@ -1,4 +1,5 @@
-//! The sorts from which demands lead to a sort.
+//! The sorts from which demands lead to a goal, each with the next entry on its way there: so a cycle of demands can be
+//! listed.
 
 ghost use Rattle.std.specs.Prelude.{◌≢◌, ◌+◌, ◌<◌, ◌≤◌, IfOk, OnOk, MatchOption, length};
 ghost use Rattle.wh_types.specs.Limits.{most_sorts};

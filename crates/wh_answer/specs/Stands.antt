@@ -68,14 +68,14 @@ RowStands (row.TooBig i) = Short i
 RowStands (row.BadPut i) = Short i
 RowStands row.NoInstance = Unit {0}
 
--- the same for why no certificate was found (ours)
+-- the cause, why no certificate was found, can be: its numbers fit, and its names are spelled as names (ours)
 abbrev pub CauseStands : NamedCause → Type 0
 CauseStands (cause.Sorts names) = AllWords names
 CauseStands (cause.Meta r name) = Short r × IsWord name
 CauseStands (cause.Stuck pairs) = AllShort pairs
 CauseStands (cause.Spent by count) = Long count
 
--- the same for a report (ours)
+-- the report can be: its numbers fit, and its names are spelled as names (ours)
 abbrev pub Stands : Report → Type 0
 Stands answer.Yes = Unit {0}
 Stands answer.No = Unit {0}

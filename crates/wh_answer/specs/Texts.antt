@@ -1,4 +1,4 @@
--- The one line of each answer (ours).
+-- The line of each answer, as bytes (ours).
 use Rattle.std.specs.Prelude.{ℕ, Bool, List, [], ◌∷◌, ◌++◌, codes, true, false}
 use Rattle.std.specs.Fmt.{decimal}
 use Rattle.wh_text.specs.Chars.{line_feed, space}

@@ -1,4 +1,4 @@
-//! A line is of one answer.
+//! The law of answers: a line is of one answer.
 
 ghost use Rattle.std.specs.Prelude.{◌≡◌};
 ghost use Rattle.wh_answer.specs.Stands.{Stands};

@@ -1,4 +1,4 @@
-//! Answers: what a run says in one line, as data and as text.
+//! Answers: the one line in which a run says its result, as data and as text.
 #![tactic(auto)]
 
 mod laws;

@@ -1,4 +1,4 @@
-//! A list of names: of the sorts on a cycle.
+//! Lists of names: of the sorts on a cycle of demands.
 
 use wh_text::Name;
 use wh_types::List;

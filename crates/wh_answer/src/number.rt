@@ -1,4 +1,4 @@
-//! The number that a word spells, as a printed one is spelled.
+//! Reading a number from a word, where it is spelled as a printed one is.
 
 ghost use Rattle.std.specs.Prelude.{◌↔◌, IsTrue};
 ghost use Rattle.std.specs.Fmt.{decimal};

@@ -150,7 +150,7 @@ fn row_words(alloc: Global, row: &Row) -> Result<Bytes, AllocError>
     }
 }
 
-// What is said of a node.
+// The words about a node.
 fn node_words(alloc: Global, row: &Row) -> Result<Bytes, AllocError>
     requires { OfNode row.now }
     ensures { IfOk result (λ text. text ≡ rejection_text row.now) }
@@ -189,7 +189,7 @@ fn node_words(alloc: Global, row: &Row) -> Result<Bytes, AllocError>
     }
 }
 
-// What is said of a line in a node, with a number in it.
+// The words about a line in a node, with a number in it.
 fn line_words(alloc: Global, row: &Row) -> Result<Bytes, AllocError>
     requires { OfLine row.now }
     ensures { IfOk result (λ text. text ≡ rejection_text row.now) }

@@ -1,5 +1,5 @@
-//! What a run answers, apart from certificates and systems that are shown, with names in place of the numbers of sorts,
-//! symbols and meta-variables.
+//! Reports: the answers of a run in one line, with names in place of the numbers of sorts, symbols and meta-variables.
+//! Certificates and systems that are shown are no reports.
 
 use crate::names::Names;
 use wh_text::Name;
@@ -59,7 +59,7 @@ pub enum NamedCause {
     Stuck(Numbers),
     /// A finder gave up.
     Spent {
-        /// Which one.
+        /// Which finder it is.
         by: NamedFinder,
         /// How many clauses or terms it listed.
         count: u64,
@@ -69,13 +69,13 @@ pub enum NamedCause {
 /// A finder.
 #[derive(Clone, Copy)]
 pub enum NamedFinder {
-    /// Of projections.
+    /// The search for projections.
     Subterm,
-    /// Of interpretations.
+    /// The search for interpretations.
     Poly,
-    /// Of path orders.
+    /// The search for path orders.
     Order,
-    /// Of loops.
+    /// The search for loops.
     Loop,
 }
 
@@ -211,7 +211,8 @@ pub enum NamedRejection {
         node: u32,
         rule: u32,
     },
-    /// The same of this pair of the set.
+    /// Not all rules are listed, and this pair of the set is not first-order, or its right side has a symbol not all
+    /// whose rules are listed.
     NotClosedPair {
         node: u32,
         pair: u32,
@@ -235,7 +236,8 @@ pub enum NamedRejection {
         rule: u32,
         monomial: u32,
     },
-    /// This move of the pair's line is not good, in the same way.
+    /// This move of the pair's line is not good: a monomial is not there, or the left one is not of the right one's
+    /// kind.
     BadMovePair {
         node: u32,
         pair: u32,
@@ -275,7 +277,7 @@ pub enum NamedRejection {
         rule: u32,
         entry: u32,
     },
-    /// This inference of the pair's line is the first that is bad, counted in the same way.
+    /// This inference of the pair's line is the first that is bad, counted in preorder from 0.
     BadInferencePair {
         node: u32,
         pair: u32,
@@ -299,10 +301,10 @@ pub enum NamedRejection {
     TooBig {
         index: u32,
     },
-    /// This line of what is put for a variable is the first that is not right.
+    /// This line of a term that is put for a variable is the first that is not right.
     BadPut {
         index: u32,
     },
-    /// There is no such place in the last term, or what stands there is not the instance.
+    /// The last term has no such position, or the part that stands there is not the instance.
     NoInstance,
 }

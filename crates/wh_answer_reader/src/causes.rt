@@ -1,4 +1,4 @@
-//! Why no certificate was found, told by its words.
+//! Reading why no certificate was found from the words of a line.
 
 ghost use Rattle.std.specs.Prelude.{◌≡◌, ◌∷◌, [], List, ℕ, codes, IfOk, MatchOption, map};
 ghost use Rattle.std.specs.Fmt.{decimal};

@@ -1,4 +1,4 @@
-//! A printed answer is read back as it was.
+//! The law of reading answers: a printed answer is read back as it was.
 
 ghost use Rattle.std.specs.Prelude.{◌≡◌, Option, Some};
 ghost use Rattle.wh_answer.specs.Stands.{Reads, Stands};

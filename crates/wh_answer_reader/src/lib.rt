@@ -1,4 +1,4 @@
-//! Answers read back from their lines.
+//! Reading answers back from their lines: the inverse of printing them.
 #![tactic(auto)]
 
 mod causes;

@@ -79,7 +79,7 @@ fn maybe(alloc: Global, words: &[&str]) -> Result<Option<Report>, AllocError>
     }
 }
 
-// The other answers.
+// The answer of a line that begins with another word than `REJECTED` and `MAYBE`.
 fn plain_report(first: &str, rest: &[&str]) -> Option<Report>
     requires rejected { first.now ≢ codes "REJECTED" }
     requires maybe { first.now ≢ codes "MAYBE" }

@@ -1,4 +1,4 @@
-//! The reasons for rejecting a certificate, told by their words.
+//! Reading why a certificate is rejected from the words of a line.
 
 ghost use Rattle.std.specs.Prelude.{◌≡◌, ◌∷◌, ◌++◌, [], ℕ, codes, IfOk};
 ghost use Rattle.std.specs.Fmt.{decimal};
@@ -111,7 +111,7 @@ fn inaccessible(alloc: Global, number: &str, rest: &[&str]) -> Result<Option<Row
     }
 }
 
-// What is said of a node.
+// The reason that words about a node say.
 fn node_row(alloc: Global, number: &str, rest: &[&str]) -> Result<Option<Row>, AllocError>
     ensures { IfOk result (Reads RowStands row_words (codes "node" ∷ number.now ∷ seen rest.now)) }
 {

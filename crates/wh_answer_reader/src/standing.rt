@@ -1,5 +1,5 @@
-//! That each report is one that can be read back: its numbers have 32 or 64 bits and its names are spelled as names,
-//! since their types say so. The main function is `report_stands`; the functions do nothing when they run.
+//! Each report can be read back: its numbers have 32 or 64 bits and its names are spelled as names, since their types
+//! say so. The main function is `report_stands`; the functions do nothing when they run.
 
 ghost use Rattle.std.specs.Prelude.{◌<◌, ◌^◌};
 ghost use Rattle.wh_text.specs.Words.{IsWord};
@@ -29,7 +29,7 @@ pub fn report_stands(report: &Report)
     }
 }
 
-// The same of why a certificate is rejected.
+// Each reason for rejecting a certificate is one that can be read back.
 fn row_stands(row: &NamedRejection)
     ensures { RowStands row.now }
 {
@@ -48,7 +48,7 @@ fn row_stands(row: &NamedRejection)
     }
 }
 
-// The same of what is wrong with a node.
+// Each fault of a node is one that can be read back.
 fn node_stands(row: &NamedRejection)
     requires { OfNode row.now }
     ensures { RowStands row.now }
@@ -79,7 +79,7 @@ fn node_stands(row: &NamedRejection)
     }
 }
 
-// The same of what is wrong with a line of a node.
+// Each fault of a line of a node is one that can be read back.
 fn line_stands(row: &NamedRejection)
     requires { OfLine row.now }
     ensures { RowStands row.now }
@@ -113,7 +113,7 @@ fn line_stands(row: &NamedRejection)
     }
 }
 
-// The same of why no certificate was found.
+// Each cause, why no certificate was found, is one that can be read back.
 fn cause_stands(cause: &NamedCause)
     ensures { CauseStands cause.now }
 {

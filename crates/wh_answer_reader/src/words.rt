@@ -1,4 +1,4 @@
-//! The words of a line, and the numbers and names among them.
+//! Cutting a line into words, and the numbers and names among them.
 
 ghost use Rattle.std.specs.Prelude.{◌≡◌, ◌↔◌, ◌++◌, List, ℕ, codes, IfOk, IsTrue, MatchOption};
 ghost use Rattle.std.specs.Fmt.{decimal};
@@ -35,7 +35,7 @@ pub fn short_number(word: &str) -> Option<u32>
     }
 }
 
-/// The name that is spelled like this.
+/// The name that these bytes spell, if they spell one.
 pub fn name_of(alloc: Global, word: &[u8]) -> Result<Option<Name>, AllocError>
     ensures { IfOk result (λ found. MatchOption found (IsWord word.now → ⊥) (λ name. IsWord name × (name ≡ word.now))) }
 {
@@ -46,7 +46,7 @@ pub fn name_of(alloc: Global, word: &[u8]) -> Result<Option<Name>, AllocError>
     }
 }
 
-/// What stands before the mark at the end of the word.
+/// The bytes before the mark at the end of the word.
 pub fn unmarked(word: &[u8]) -> Option<&[u8]>
     ensures { MatchOption result ((name : List ℕ) → name ++ codes "#" ≡ word.now → ⊥) (λ name. name.now ++ codes "#" ≡ word.now) }
 {

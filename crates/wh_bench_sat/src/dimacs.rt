@@ -1,4 +1,4 @@
-//! Formulas in DIMACS form.
+//! Reading formulas in DIMACS form.
 
 ghost use Rattle.std.specs.Bool.{OnTrue};
 ghost use Rattle.std.specs.Prelude.{IfOk};

@@ -10,7 +10,7 @@ use std::alloc::{AllocError, Global};
 use wh_sat_trail::{Clause, Entry, Refutation};
 use wh_types::Numbers;
 
-/// The text of a list for a formula with so many clauses.
+/// The text of a list for a formula with `given` clauses.
 pub fn lrat(alloc: Global, given: usize, entries: &[Entry]) -> Result<String, AllocError> {
     let mut text = String::new(alloc);
     for (number, entry) in entries.iter().enumerate() {

@@ -54,7 +54,7 @@ fn answer<R: Env + Files + AllocGlobal>(rt: &R) -> Result<String, AllocError> {
     checked(alloc, &formula, &list)
 }
 
-// What the formula comes to.
+// The word for the answer about the formula.
 fn solved(alloc: Global, formula: Formula) -> Result<String, AllocError>
     requires { Within formula.variables formula.clauses }
 {
@@ -66,7 +66,7 @@ fn solved(alloc: Global, formula: Formula) -> Result<String, AllocError>
     String::from_str(alloc, word)
 }
 
-// The same, and the list where there is no model.
+// The word for the answer; where there is no model, the list that shows it.
 fn listed(alloc: Global, formula: &Formula) -> Result<String, AllocError>
     requires { Within formula.now.variables formula.now.clauses }
 {

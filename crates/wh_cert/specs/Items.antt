@@ -5,7 +5,8 @@ use Rattle.wh_text.specs.RawTree.{RTm}
 use Rattle.wh_cert.specs.Written.{Node, Put, Cert, yes, no}
 
 -- the lines of a YES certificate before its nodes; a node without its children; the lines of a NO certificate before
--- its steps; a step; the place of the instance; what is put for a variable; the end of a certificate of either kind
+-- its steps; a step; the position of the instance; a term that is put for a variable; the end of a certificate of
+-- either kind
 pub data Item : Type 0 where
   yes_head : (version : ℕ) (ranks : List ℕ) (pairs : ℕ) → Item
   node : (x : Node) → Item

@@ -69,7 +69,7 @@ abbrev pub put_steps : List taken.Step → List ℕ → List ℕ
 put_steps [] r = r
 put_steps (s ∷ ss) r = put_step s (put_steps ss r)
 
--- the line of what is put for a variable
+-- the line of a term that is put for a variable
 abbrev pub put_put : Put → List ℕ → List ℕ
 put_put p r = codes "put %" ++ (decimal p.number ++ (codes ":" ++ put_part p.kind (codes " " ++ put_term p.term (line_feed ∷ r))))
 
@@ -85,7 +85,7 @@ abbrev pub put_numbers : List ℕ → List ℕ → List ℕ
 put_numbers [] r = r
 put_numbers (n ∷ ns) r = put_entry n (put_numbers ns r)
 
--- these up to the end of their line
+-- the numbers up to the end of their line
 abbrev pub put_line : List ℕ → List ℕ → List ℕ
 put_line ns r = put_numbers ns (line_feed ∷ r)
 

@@ -45,7 +45,7 @@ children (subterm args drop) = 1
 children (interpretations usable funs marks rules pairs drop) = 1
 children (order funs marks rules pairs drop) = 1
 
--- the nodes are so many trees, one behind the other, in each a node before its children's trees
+-- the nodes are k trees, one behind the other, in each a node before its children's trees
 abbrev pub Preorder : ℕ → List Node → Type 0
 Preorder zero [] = Unit {0}
 Preorder zero (x ∷ rest) = ⊥
@@ -53,7 +53,7 @@ Preorder (suc k) [] = ⊥
 Preorder (suc k) (x ∷ rest) = Preorder (children x + k) rest
 
 -- a certificate (ours). YES: a rank for each sort, the number of pairs, and a tree of nodes. NO: a term, the steps of a
--- reduction from it, a place in the last term, and what is put for the first term's variables there
+-- reduction from it, a position in the last term, and terms for the first term's variables there
 pub data Cert : Type 0 where
   yes : (version : ℕ) (ranks : List ℕ) (pairs : ℕ) (nodes : List Node) → Cert
   no : (term : RTm) (steps : List taken.Step) (at : List ℕ) (puts : List Put) → Cert

@@ -1,4 +1,5 @@
-//! What a certificate says.
+//! Certificates as data: a proof that a system terminates, or a loop of it. Readers and the search make them; the
+//! check, the printer and the explainer take them.
 
 use crate::order_node::OrderNode;
 use crate::poly_node::PolyNode;
@@ -6,7 +7,7 @@ use wh_terms::{Path, Step};
 use wh_text::{Name, RawTerm, RawType};
 use wh_types::{Blocks, List, Numbers};
 
-/// A certificate. All places in its raw trees are 0.
+/// A certificate. All offsets in its raw trees are 0.
 #[derive(Drop)]
 pub enum Certificate {
     /// For each well-typed term there is a number that no reduction from it exceeds in length.
@@ -36,24 +37,24 @@ pub enum Node {
     Done,
     /// There is one pair, which may not follow itself.
     Alone,
-    /// By blocks of pairs, none of which leads back to an earlier one; a child for each.
+    /// By blocks of pairs, none of which leads back to an earlier one. It has a child for each block.
     Blocks(Blocks),
-    /// By an argument of each symbol that shrinks in some pairs and never grows; a child for the others.
+    /// By an argument of each symbol that shrinks in some pairs and never grows. It has a child for the other pairs.
     Subterm {
-        /// The symbols, each with an argument.
+        /// The pairs in which the argument shrinks.
         args: Args,
         /// The pairs in which it shrinks.
         drop: Numbers,
     },
-    /// By polynomials under which no rule that is to be covered and no pair grows, and some pairs shrink; a child for
-    /// the others.
+    /// By polynomials under which no rule that is to be covered and no pair grows, and some pairs shrink. It has a
+    /// child for the other pairs.
     Poly(Box<PolyNode>),
-    /// By argument filters and a path order under which no rule and no pair grows, and some pairs shrink; a child for
-    /// the others.
+    /// By argument filters and a path order under which no rule and no pair grows, and some pairs shrink. It has a
+    /// child for the other pairs.
     Order(Box<OrderNode>),
 }
 
-/// A symbol, and which of its arguments is looked at, counted from 1.
+/// A symbol, and the argument of it that is looked at, counted from 1.
 #[derive(Drop)]
 pub struct Arg {
     /// The name of the symbol.
@@ -69,9 +70,9 @@ pub struct NoCertificate {
     pub term: RawTerm,
     /// The steps from it, in order.
     pub steps: Steps,
-    /// The place of the instance in the last term.
+    /// The position of the instance in the last term.
     pub at: Path,
-    /// What is put for the variables of the first term in the instance.
+    /// The terms that take the place of the first term's variables in the instance.
     pub puts: Puts,
 }
 
@@ -89,7 +90,7 @@ pub type Steps = List<Step>;
 pub struct Put {
     /// The number of the variable.
     pub number: u32,
-    /// Its type.
+    /// The type of the variable.
     pub kind: RawType,
     /// The term.
     pub term: RawTerm,
@@ -98,9 +99,9 @@ pub struct Put {
 /// A list of terms that are put for variables.
 pub type Puts = List<Put>;
 
-/// The bytes are no certificate text.
+/// The fault of bytes that are no certificate text.
 #[derive(Clone, Copy)]
 pub struct CertSyntax {
-    /// How many bytes from the front on can begin a certificate text.
+    /// The number of bytes, from the front on, that can begin a certificate text.
     pub at: u64,
 }

@@ -1,12 +1,12 @@
-//! The items of a certificate: what its lines say, one behind the other.
+//! The items of a certificate: parts of it that one or several whole lines say, in the order of its text.
 
 use crate::certificate::{Node, Put};
 use wh_terms::{Path, Step};
 use wh_text::RawTerm;
 use wh_types::Numbers;
 
-/// What some lines of a certificate say; its text is that of its items, in their order, and nothing else. Large ones
-/// stand behind a box.
+/// An item. The text of a certificate is that of its items, in their order, and nothing else. Large parts stand behind
+/// a box.
 #[derive(Drop)]
 pub enum Item {
     /// The lines of a YES certificate before its nodes.
@@ -27,9 +27,9 @@ pub enum Item {
     },
     /// A step.
     Step(Step),
-    /// The place of the instance.
+    /// The position of the instance.
     At(Path),
-    /// What is put for a variable.
+    /// The term that is put for a variable.
     Put(Box<Put>),
     /// The end of a certificate of either kind.
     End,

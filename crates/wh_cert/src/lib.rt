@@ -1,4 +1,4 @@
-//! Certificates, as data.
+//! Certificates as data: nodes of a termination proof, loops, and their items.
 #![tactic(auto)]
 
 mod certificate;

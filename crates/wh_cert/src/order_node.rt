@@ -9,7 +9,7 @@ use wh_types::{List, Numbers};
 pub struct OrderNode {
     /// The filters of the symbols.
     pub funs: NamedFilters,
-    /// Those of the marked symbols.
+    /// The filters of the marked symbols.
     pub marks: NamedFilters,
     /// The inference for each rule.
     pub rules: Inferences,

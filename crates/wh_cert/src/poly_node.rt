@@ -10,9 +10,9 @@ use wh_types::{List, Numbers};
 pub struct PolyNode {
     /// The numbers of the rules that are to be covered; `None` in version 1 of the format, where all are.
     pub usable: Option<Numbers>,
-    /// Those of the symbols.
+    /// The interpretations of the symbols.
     pub funs: Interps,
-    /// Those of the marked symbols.
+    /// The interpretations of the marked symbols.
     pub marks: Interps,
     /// The moves for each rule that is to be covered.
     pub rules: Covers,

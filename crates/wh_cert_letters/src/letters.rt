@@ -1,4 +1,4 @@
-//! Names and numbers, byte by byte.
+//! Names and numbers of a certificate, byte by byte: where each may begin and go on, within its limit.
 
 ghost use Rattle.std.specs.Prelude.{◌≡◌, ◌+◌, ◌-◌, ◌*◌, ◌<◌, ◌&&◌, nat_lt, [], ◌∷◌, ◌++◌, true, false, length, IfOk, OnOk, MatchOption};
 ghost use Rattle.wh_types.specs.Limits.{longest_name};
@@ -13,7 +13,7 @@ use wh_types::Bytes;
 /// The greatest number of a certificate.
 const GREATEST: u32 = 65_535;
 
-/// The letters of a name are that many at most.
+/// The greatest number of letters of a name.
 const LONGEST_NAME: usize = 64;
 
 /// The letters of a name so far, which are a name themselves.
@@ -44,7 +44,7 @@ impl Letters {
         Ok(Letters { bytes })
     }
 
-    /// The byte is one more letter, and the name stays within its limit.
+    /// Whether the byte is one more letter of the name, and the name stays within its limit.
     pub fn goes_on(&self, byte: u8) -> bool
         ensures { result ≡ (is_part byte && nat_lt (length self.now) longest_name) }
     {
@@ -69,14 +69,14 @@ impl Letters {
     }
 }
 
-/// A byte that a name begins with.
+/// Whether a name may begin with the byte.
 pub fn begins_name(byte: u8) -> bool
     ensures { result ≡ is_start byte }
 {
     byte.is_ascii_uppercase() || byte.is_ascii_lowercase() || byte == b'_'
 }
 
-/// A byte that a name goes on with.
+/// Whether a name may go on with the byte.
 fn goes_on_name(byte: u8) -> bool
     ensures { result ≡ is_part byte }
 {

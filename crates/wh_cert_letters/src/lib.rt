@@ -1,4 +1,4 @@
-//! Names and numbers of a certificate's lines, read byte by byte.
+//! Names and numbers of a certificate's lines, read byte by byte. The readers of its larger parts stand on them.
 #![tactic(auto)]
 
 mod letters;

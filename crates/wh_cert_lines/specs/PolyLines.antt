@@ -47,7 +47,7 @@ poly_led x xs no_poly = refused
 abbrev pub moves_step : Lines → List moved.Move → ℕ → LinesStep
 moves_step x ms b = cond (b == space) (on x (from_wanted ms)) (cond (b == line_feed) (on (add_shown x ms) lines_front) refused)
 
--- one more move
+-- the moves and one more
 abbrev pub add_move : List moved.Move → ℕ → ℕ → ℕ → List moved.Move
 add_move ms i j n = ms ++ record { from = i; to = j; amount = n } ∷ []
 

@@ -1,4 +1,5 @@
-//! The lines of a node of a path order up to that of `drop`, byte by byte.
+//! The reader of the lines of a node of a path order up to the line of `drop`, byte by byte. `OrderLines::step` is its
+//! main function.
 
 ghost use Rattle.std.specs.Prelude.{◌≡◌, [], IfOk, OnOk};
 ghost use Rattle.wh_order_inference.specs.Said.{inference as said_inference, written_filter};
@@ -22,11 +23,11 @@ use wh_types::Numbers;
 /// How far the present line was read; names, filters and inferences stand in the lines themselves.
 #[derive(Clone, Copy)]
 pub enum OrderPlace {
-    /// Nothing of it.
+    /// No byte of the line.
     Front,
     /// `fun ` or `mark `.
     NameWanted,
-    /// That and letters.
+    /// `fun ` or `mark `, and letters of the name.
     Name,
     /// A part of a filter.
     Filter,
@@ -45,14 +46,14 @@ pub struct OrderLines {
     pub place: OrderPlace,
     /// The name in a line of a filter.
     pub name: Letters,
-    /// Its filter.
+    /// The filter in that line.
     pub filter: FilterText,
     /// The inference in a line.
     pub inference: InferenceText,
 }
 
 impl OrderLines {
-    /// Before all lines.
+    /// The reader before all lines.
     pub fn new(alloc: Global) -> Result<OrderLines, AllocError>
         ensures lines { IfOk result (λ lines. lines_of lines ≡ in_funs []) }
         ensures place { IfOk result (λ lines. lines_place lines ≡ lines_front) }
@@ -66,7 +67,7 @@ impl OrderLines {
         })
     }
 
-    /// Before all lines again.
+    /// Goes back to before all lines.
     pub fn restart(&mut self, alloc: Global) -> Result<(), AllocError>
         ensures lines { OnOk result (lines_of self.new ≡ in_funs []) }
         ensures place { OnOk result (lines_place self.new ≡ lines_front) }
@@ -76,7 +77,7 @@ impl OrderLines {
         Ok(())
     }
 
-    /// The place behind the word of a line of that kind.
+    /// Goes on behind the word of a line of that kind.
     pub fn begin_line(&mut self, section: Section)
         ensures lines { lines_of self.new ≡ section_of section self.old }
         ensures place { lines_place self.new ≡ line_begun (section_of section self.old) }
@@ -106,7 +107,7 @@ impl OrderLines {
         })
     }
 
-    /// The step from a place in the lines.
+    /// Takes one more byte.
     pub fn step(&mut self, alloc: Global, byte: u8) -> Result<LinesStep, AllocError>
         ensures { IfOk result (λ went. lines_went went self.new ≡ lines_step (lines_of self.old) (lines_place self.old) byte) }
     {

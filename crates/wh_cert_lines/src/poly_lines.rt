@@ -1,4 +1,5 @@
-//! The lines of a node of interpretations up to that of `drop`, byte by byte.
+//! The reader of the lines of a node of interpretations up to the line of `drop`, byte by byte. `PolyLines::step` is
+//! its main function.
 
 ghost use Rattle.std.specs.Prelude.{◌≡◌, [], IfOk, OnOk};
 ghost use Rattle.wh_poly.specs.Erase.{poly};
@@ -22,27 +23,27 @@ use wh_types::Numbers;
 /// How far the present line was read; what is longer than a number stands in the lines themselves.
 #[derive(Clone, Copy)]
 pub enum LinesPlace {
-    /// Nothing of it.
+    /// No byte of the line.
     Front,
     /// `fun ` or `mark `.
     NameWanted,
-    /// That and letters.
+    /// `fun ` or `mark `, and letters of the name.
     Name,
     /// A part of a polynomial.
     Poly,
-    /// Moves.
+    /// `rule` or `pair`, and moves.
     Moves,
-    /// These and a space.
+    /// Moves and a space.
     FromWanted,
-    /// That and digits.
+    /// Moves, a space and digits of a monomial on the left.
     From(u32),
-    /// These and a `>`.
+    /// A move up to its `>`.
     ToWanted,
-    /// That and digits.
+    /// A move up to digits of its monomial on the right.
     To(u32),
-    /// These and a `:`.
+    /// A move up to its `:`.
     AmountWanted,
-    /// That and digits.
+    /// A move up to digits of its amount.
     Amount(u128),
 }
 
@@ -55,18 +56,18 @@ pub struct PolyLines {
     pub place: LinesPlace,
     /// The name in a line of an interpretation.
     pub name: Letters,
-    /// Its polynomial.
+    /// The polynomial in a line of an interpretation.
     pub poly: PolyText,
     /// The moves in a line.
     pub moves: Moves,
-    /// From where the present one goes.
+    /// The left monomial of the move that is read.
     pub from: u32,
-    /// And to where.
+    /// The right monomial of the move that is read.
     pub to: u32,
 }
 
 impl PolyLines {
-    /// Before all lines.
+    /// The reader before all lines.
     pub fn new(alloc: Global) -> Result<PolyLines, AllocError>
         ensures lines { IfOk result (λ lines. lines_of lines ≡ in_funs []) }
         ensures place { IfOk result (λ lines. lines_place lines ≡ lines_front) }
@@ -82,7 +83,7 @@ impl PolyLines {
         })
     }
 
-    /// Before all lines again.
+    /// Goes back to before all lines.
     pub fn restart(&mut self, alloc: Global) -> Result<(), AllocError>
         ensures lines { OnOk result (lines_of self.new ≡ in_funs []) }
         ensures place { OnOk result (lines_place self.new ≡ lines_front) }
@@ -92,7 +93,7 @@ impl PolyLines {
         Ok(())
     }
 
-    /// The place behind the word of a line of that kind.
+    /// Goes on behind the word of a line of that kind.
     pub fn begin_line(&mut self, alloc: Global, section: Section) -> Result<(), AllocError>
         ensures lines { OnOk result (lines_of self.new ≡ section_of section self.old) }
         ensures place { OnOk result (lines_place self.new ≡ line_begun (section_of section self.old)) }
@@ -132,7 +133,7 @@ impl PolyLines {
         })
     }
 
-    /// The step from a place in the lines.
+    /// Takes one more byte.
     pub fn step(&mut self, alloc: Global, byte: u8) -> Result<LinesStep, AllocError>
         ensures { IfOk result (λ went. lines_went went self.new ≡ lines_step (lines_of self.old) (lines_place self.old) byte) }
     {

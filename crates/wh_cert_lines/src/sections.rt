@@ -1,6 +1,5 @@
 //! The lines of a node in four sections, of symbols, of marked symbols, of rules and of pairs, up to the line of
-//! `drop`: in which order they come, and the lists of what they hold. What a line holds, and how it is read, is another
-//! matter.
+//! `drop`: in which order they come, and the lists of what they hold. The reader of a line's content is a parameter.
 
 ghost use Rattle.std.specs.Prelude.{◌≡◌, [], IfOk, OnOk};
 ghost use Rattle.wh_cert_lines.specs.Sections.{in_funs, to_marks, to_rules, to_pairs, add_named, add_shown, first_step, mark_step, rule_step, pair_step};
@@ -10,60 +9,60 @@ ghost use Rattle.wh_cert_lines.specs.declared.sections.Section.TheVariants as se
 use std::alloc::{AllocError, Global};
 use wh_types::List;
 
-/// Of which kind the last line is.
+/// The kind of the last line.
 #[derive(Clone, Copy)]
 pub enum Section {
-    /// Of a symbol.
+    /// A line of a symbol.
     Funs,
-    /// Of a marked symbol.
+    /// A line of a marked symbol.
     Marks,
-    /// Of a rule.
+    /// A line of a rule.
     Rules,
-    /// Of a pair.
+    /// A line of a pair.
     Pairs,
 }
 
 /// Where the first byte of a line leads.
 #[derive(Clone, Copy)]
 pub enum LineBegun {
-    /// To a line of the last kind.
+    /// The byte begins a line of the last kind.
     Begins,
-    /// To the line of `drop`.
+    /// The byte begins the line of `drop`.
     Drops,
-    /// Nowhere.
+    /// The byte is wrong.
     Wrong,
 }
 
 /// Where a byte of a line leads.
 #[derive(Clone, Copy)]
 pub enum LinesStep {
-    /// On.
+    /// The line goes on with the byte.
     On,
-    /// To a line of the last kind, whose first byte it is.
+    /// The byte begins a line of the last kind.
     Begins,
-    /// To the line of `drop`, whose first byte it is.
+    /// The byte begins the line of `drop`.
     Drops,
-    /// Nowhere.
+    /// The byte is wrong.
     Wrong,
 }
 
 /// What the lines so far hold: `N` in lines of symbols, `L` in lines of rules and pairs.
 #[derive(Drop)]
 pub struct Sections<N, L> {
-    /// Of which kind the last line is.
+    /// The kind of the last line.
     pub section: Section,
-    /// Those of symbols.
+    /// What lines of symbols hold.
     pub funs: List<N>,
-    /// Those of marked symbols.
+    /// What lines of marked symbols hold.
     pub marks: List<N>,
-    /// Those of rules.
+    /// What lines of rules hold.
     pub rules: List<L>,
-    /// Those of pairs.
+    /// What lines of pairs hold.
     pub pairs: List<L>,
 }
 
 impl<N: Drop, L: Drop> Sections<N, L> {
-    /// Before all lines.
+    /// The lists before all lines.
     pub fn new(alloc: Global) -> Self
         ensures { lines_of result ≡ in_funs [] }
     {
@@ -76,7 +75,7 @@ impl<N: Drop, L: Drop> Sections<N, L> {
         }
     }
 
-    /// Before all lines again.
+    /// Goes back to before all lines.
     pub fn restart(&mut self, alloc: Global) -> Result<(), AllocError>
         ensures { OnOk result (lines_of self.new ≡ in_funs []) }
     {
@@ -138,7 +137,7 @@ impl<N: Drop, L: Drop> Sections<N, L> {
         }
     }
 
-    /// The first byte of a line that is none of a symbol.
+    /// The first byte of a line that is no line of a symbol.
     fn begin_mark(&mut self, alloc: Global, byte: u8) -> Result<LineBegun, AllocError>
         ensures { IfOk result (λ went. begun_went went self.new ≡ mark_step (lines_of self.old) byte) }
     {
@@ -175,7 +174,7 @@ impl<N: Drop, L: Drop> Sections<N, L> {
         Ok(LineBegun::Wrong)
     }
 
-    /// One more line of a symbol, or of a marked symbol; elsewhere it is passed over.
+    /// One more line of a symbol, or of a marked symbol. In a later section it is passed over.
     pub fn push_named(&mut self, item: N) -> Result<(), AllocError>
         ensures { OnOk result (lines_of self.new ≡ add_named (lines_of self.old) item) }
     {
@@ -186,7 +185,7 @@ impl<N: Drop, L: Drop> Sections<N, L> {
         }
     }
 
-    /// One more line of a rule, or of a pair; elsewhere it is passed over.
+    /// One more line of a rule, or of a pair. In an earlier section it is passed over.
     pub fn push_shown(&mut self, item: L) -> Result<(), AllocError>
         ensures { OnOk result (lines_of self.new ≡ add_shown (lines_of self.old) item) }
     {

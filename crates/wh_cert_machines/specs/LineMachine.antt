@@ -123,7 +123,7 @@ pub data Past : Type 0 where
   begun : (t : RTm) (steps : List taken.Step) → Past
   placed : (t : RTm) (steps : List taken.Step) (at : List ℕ) (puts : List Put) → Past
 
--- one more item; those that do not fit are passed over
+-- the items and one more; one that does not fit is passed over
 abbrev pub gather : Past → Item → Past
 gather nothing (head_item t) = begun t []
 gather (begun t steps) (step_item s) = begun t (steps ++ s ∷ [])

@@ -1,4 +1,4 @@
--- What the values of the reader of NO certificates stand for.
+-- The states of the reader of NO certificates that the values of its code stand for.
 use Rattle.std.specs.Prelude.{ℕ, [], drop, Option, Some, None}
 use Rattle.wh_text.specs.Erase.{rty, rtm}
 use Rattle.wh_text.specs.declared.raw.RawType.{RawType}

@@ -212,7 +212,7 @@ lines_led usable (begins x) = on (word (line_rest x) (to_line usable x))
 lines_led usable (drops x) = on (word (codes "rop") (to_list (dropped usable x)))
 lines_led usable l.refused = refused
 
--- the same of a node of a path order
+-- the list of dropped pairs, behind all other lines of a node of a path order
 abbrev pub order_dropped : orders.Lines → Listed
 order_dropped (in_funs funs) = of_order funs [] [] []
 order_dropped (in_marks funs marks) = of_order funs marks [] []
@@ -248,7 +248,7 @@ pub data Past : Type 0 where
 abbrev pub nothing : Past
 nothing = so_far 0 [] 0 [] 0
 
--- one more item; a node wants its children in its place
+-- the items and one more; a node wants its children in its place
 abbrev pub gather : Past → Item → Past
 gather (so_far version ranks pairs nodes wanted) (version_item new) = so_far new ranks pairs nodes wanted
 gather (so_far version ranks pairs nodes wanted) (ranks_item new) = so_far version new pairs nodes wanted

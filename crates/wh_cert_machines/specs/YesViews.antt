@@ -1,4 +1,4 @@
--- What the values of the reader of YES certificates stand for.
+-- The states of the reader of YES certificates that the values of its code stand for.
 use Rattle.std.specs.Prelude.{ℕ, zero, suc, List, [], drop, map, Option, Some, None}
 use Rattle.wh_cert_letters.specs.declared.letters.Letters.{Letters}
 use Rattle.wh_cert.specs.Written.{blocks}
@@ -90,7 +90,8 @@ yes_went On l = m.on (yes_place l)
 yes_went (Gives i) l = m.gives (item_of i) (yes_place l)
 yes_went Wrong l = m.refused
 
--- so many blocks are left, behind those that were read
+-- where the line of a block leads, behind the blocks that were read: to the node where no block is left, or to the next
+-- block
 abbrev pub next_block : ℕ → List (List ℕ) → m.LineStep
 next_block zero parts = m.gives (m.node_item (blocks parts)) m.front
 next_block (suc left) parts = m.block_wanted left parts

@@ -1,5 +1,5 @@
 //! NO certificates line by line: the step takes one byte, and gives an item where a line of the text is whole. It keeps
-//! nothing of the lines before.
+//! nothing of the lines before. `NoLine::step` is the main function.
 
 ghost use Rattle.std.specs.Bool.{OnFalse, OnTrue};
 ghost use Rattle.std.specs.Prelude.{◌≡◌, IfOk};
@@ -28,40 +28,40 @@ pub enum Behind {
     Path(Option<u32>),
     /// The place of the instance.
     At,
-    /// A variable for which something is put.
+    /// A variable for which a term is put.
     Put,
     /// Nothing.
     Finish,
 }
 
-/// How far the present line was read; what is longer than a number stands in the line itself.
+/// How far the present line was read. What is longer than a number stands in the line itself.
 #[derive(Clone, Copy)]
 pub enum LinePlace {
-    /// That many bytes of a fixed word.
+    /// The first bytes of a fixed word, as many as the number says.
     Word(Behind, usize),
     /// A part of the certificate's term.
     Term,
-    /// Nothing of a line of a step or of `at`.
+    /// No byte of a line of a step or of `at`.
     Line,
     /// `step `.
     Rule,
-    /// That and digits.
+    /// `step ` and digits of a rule's number.
     RuleNumber(u32),
     /// A step's line up to a part of its path.
     StepPath(Option<u32>),
     /// `at /` and a part of the path.
     AtPath,
-    /// Nothing of a line behind that of `at`.
+    /// No byte of a line behind the line of `at`.
     LaterLine,
     /// `put %`.
     PutVariable,
-    /// That and digits.
+    /// `put %` and digits of a variable's number.
     PutNumber(u32),
     /// A line of `put` up to a part of the variable's type.
     PutType(u32),
     /// A line of `put` up to a part of the term.
     PutTerm(u32),
-    /// All of the certificate.
+    /// The whole certificate.
     Finished,
 }
 
@@ -74,11 +74,11 @@ pub struct NoLine {
     pub path: Path,
     /// The open parentheses of a term.
     pub frames: Vec<Frame>,
-    /// What was read of the term since.
+    /// What was read of the term since the last open parenthesis.
     pub part: TermPlace,
     /// The open parentheses of a variable's type.
     pub types: Vec<RawTypes>,
-    /// What was read of the type since.
+    /// What was read of the type since the last open parenthesis.
     pub type_part: TypePlace,
     /// The variable's type, once it is whole.
     pub kind: Option<RawType>,
@@ -93,25 +93,25 @@ pub enum Item {
     Step(Step),
     /// The place of the instance.
     At(Path),
-    /// What is put for a variable.
+    /// The term that is put for a variable.
     Put(Box<Put>),
     /// The end.
     End,
 }
 
-/// Where a byte leads.
+/// Where a byte leads the reader.
 #[derive(Drop)]
 pub enum LineStep {
-    /// On.
+    /// The line goes on with the byte.
     On,
-    /// On, with an item whose line is whole.
+    /// The byte ends a line, which gives an item.
     Gives(Item),
-    /// Nowhere.
+    /// The byte is wrong.
     Wrong,
 }
 
 impl NoLine {
-    /// Before the certificate's second byte.
+    /// The reader before the certificate's second byte.
     pub fn new(alloc: Global) -> NoLine
         ensures { result.place ≡ Word behind.Term 1 }
     {
@@ -126,7 +126,7 @@ impl NoLine {
         }
     }
 
-    /// The step from a place in the line.
+    /// Takes one more byte.
     pub fn step(&mut self, alloc: Global, byte: u8) -> Result<LineStep, AllocError>
         ensures { IfOk result (λ went. line_went went self.new ≡ line_step (line_place self.old) byte) }
     {
@@ -147,8 +147,8 @@ impl NoLine {
         }
     }
 
-    /// Goes on by the byte where that ends no word and no line, as most bytes do; else nothing is done. `step` does the
-    /// same, and takes three times as long.
+    /// Goes on by the byte where the byte ends no word and no line, as most bytes do, and says whether it did. `step`
+    /// does the same for such a byte, and takes three times as long.
     pub fn goes_by(&mut self, byte: u8) -> bool
         ensures on { OnTrue result (on (line_place self.new) ≡ line_step (line_place self.old) byte) }
         ensures stays { OnFalse result (self.new ≡ self.old) }
@@ -163,7 +163,7 @@ impl NoLine {
         }
     }
 
-    /// On to the place, if there is one.
+    /// Goes on to the place, and answers whether there is one.
     fn goes_to(&mut self, place: Option<LinePlace>) -> bool
         ensures on { OnTrue result (on (line_place self.new) ≡ went_to place self.old) }
         ensures stays { OnFalse result (self.new ≡ self.old) }
@@ -177,7 +177,7 @@ impl NoLine {
         }
     }
 
-    /// On by a byte of a fixed word that is not its last.
+    /// Goes on by a byte of a fixed word that is not its last.
     fn goes_along(&mut self, behind: Behind, at: usize, byte: u8) -> bool
         ensures on { OnTrue result (on (line_place self.new) ≡ line_step (place_of (Word behind at) self.old) byte) }
         ensures stays { OnFalse result (self.new ≡ self.old) }
@@ -193,7 +193,7 @@ impl NoLine {
         false
     }
 
-    /// On by a step of the path of a step.
+    /// Goes on by one digit of a step's path.
     fn goes_down(&mut self, rule: Option<u32>, byte: u8) -> bool
         requires { self.old.place ≡ StepPath rule }
         ensures on { OnTrue result (on (line_place self.new) ≡ line_step (path_of_step rule self.old.path) byte) }
@@ -206,7 +206,7 @@ impl NoLine {
         }
     }
 
-    /// On to the place, or nowhere.
+    /// Goes on to the place; where there is none the byte is wrong.
     fn go(&mut self, place: Option<LinePlace>) -> LineStep
         ensures { line_went result self.new ≡ went_to place self.old }
     {
@@ -415,7 +415,7 @@ impl NoLine {
     }
 }
 
-/// The fixed word whose end leads there.
+/// The fixed word behind which this stands.
 pub fn spelling(behind: Behind) -> &'static [u8]
     ensures { result.now ≡ spelling (behind_of behind) }
 {

@@ -1,4 +1,4 @@
-//! How far the bytes of a certificate have led, of either kind.
+//! How far the bytes of a certificate have led, whether it is a YES or a NO certificate.
 
 ghost use Rattle.std.specs.Prelude.{◌≡◌};
 ghost use Rattle.wh_cert_machines.specs.declared.progress.Progress.TheVariants.{Refused};
@@ -21,23 +21,23 @@ pub struct YesItems {
     pub wanted: u64,
 }
 
-/// Where the bytes led.
+/// Where the bytes have led.
 #[derive(Drop)]
 pub enum Progress {
-    /// Before the first byte.
+    /// No byte was taken.
     Unread,
-    /// In a YES certificate.
+    /// The bytes are in a YES certificate.
     Yes(Box<YesItems>),
-    /// In a NO certificate.
+    /// The bytes are in a NO certificate.
     No(Box<NoLine>),
-    /// Nowhere: the byte behind those that were taken is wrong.
+    /// The byte behind those that were taken is wrong.
     Refused,
-    /// On, but no memory was left to say where.
+    /// There was no memory to keep where the bytes have led.
     Lost,
 }
 
 impl Progress {
-    /// The bytes are refused from now on; so many were taken before.
+    /// The bytes are refused from now on. `taken` of them can begin a certificate.
     pub fn refuse(&mut self, taken: u32) -> CertSyntax
         ensures place { result.at ≡ taken }
         ensures at { self.new ≡ Refused }

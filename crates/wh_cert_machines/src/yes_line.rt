@@ -1,5 +1,5 @@
 //! YES certificates line by line: the step takes one byte, and gives an item where its last line is whole. It keeps
-//! nothing of the items before.
+//! nothing of the items before. `YesLine::step` is the main function.
 
 ghost use Rattle.std.specs.Prelude.{◌≡◌, true, drop, map, IfOk};
 ghost use Rattle.wh_cert.specs.Said.{said_arg};
@@ -26,7 +26,7 @@ use wh_types::{Blocks, Numbers};
 pub enum Listed {
     /// The ranks.
     Ranks,
-    /// A block, behind which so many come.
+    /// A block, behind which this number of blocks come.
     Block(u32),
     /// The pairs that are dropped, behind lines of arguments.
     Drop,
@@ -45,7 +45,7 @@ pub enum Counted {
     Pairs,
     /// The number of blocks.
     Blocks,
-    /// One more of a list.
+    /// A further number of a list.
     List(Listed),
 }
 
@@ -70,46 +70,46 @@ pub enum YesBehind {
     Name,
     /// Lines of a node of interpretations.
     Poly,
-    /// What such a line of this kind has behind its word.
+    /// The content of a line of interpretations or moves, of this kind.
     Line(Section),
     /// Lines of a node of a path order.
     Order,
-    /// What such a line of this kind has behind its word.
+    /// The content of a line of filters or inferences, of this kind.
     OrderLine(Section),
     /// Nothing.
     Finish,
 }
 
-/// How far the present lines were read; what is longer than a number stands in the line itself.
+/// How far the present lines were read. What is longer than a number stands in the line itself.
 #[derive(Clone, Copy)]
 pub enum YesPlace {
-    /// That many bytes of a fixed word.
+    /// The first bytes of a fixed word, as many as the number says.
     Word(YesBehind, usize),
     /// `YES `.
     VersionWanted,
     /// A list's line up to its last number.
     Listed(Listed),
-    /// What stands before a number.
+    /// A line up to where a number comes.
     NumberWanted(Counted),
-    /// That and digits.
+    /// A line up to digits of a number.
     Number(Counted, u32),
-    /// Nothing of a node, or of the end.
+    /// No byte of a node, or of the end.
     Front,
-    /// Nothing of a line of `arg` or `drop`.
+    /// No byte of a line of `arg` or `drop`.
     ArgFront,
     /// `arg `.
     NameWanted,
-    /// That and letters.
+    /// `arg ` and letters of a symbol's name.
     Name,
-    /// A symbol's name and a space.
+    /// `arg `, a symbol's name and a space.
     ArgPlaceWanted,
-    /// That and digits.
+    /// `arg `, a symbol's name, a space and digits.
     ArgPlace(u32),
     /// A part of the lines of a node of interpretations.
     Lines,
     /// A part of the lines of a node of a path order.
     OrderLines,
-    /// All of the certificate.
+    /// The whole certificate.
     Finished,
 }
 
@@ -149,19 +149,19 @@ pub enum YesItem {
     End,
 }
 
-/// Where a byte leads.
+/// Where a byte leads the reader.
 #[derive(Drop)]
 pub enum YesStep {
-    /// On.
+    /// The lines go on with the byte.
     On,
-    /// On, with an item whose last line is whole.
+    /// The byte ends the last line of an item.
     Gives(YesItem),
-    /// Nowhere.
+    /// The byte is wrong.
     Wrong,
 }
 
 impl YesLine {
-    /// Before the certificate's second byte.
+    /// The reader before the certificate's second byte.
     pub fn new(alloc: Global) -> Result<YesLine, AllocError>
         ensures { IfOk result (λ line. line.place ≡ place.Word behind.Version 1) }
     {
@@ -177,7 +177,7 @@ impl YesLine {
         })
     }
 
-    /// The step from a place in the lines; at the front of a node with the version, and whether one is wanted.
+    /// Takes one more byte. At the front of a node it needs the version, and whether a node is wanted there.
     pub fn step(
         &mut self,
         alloc: Global,
@@ -399,7 +399,7 @@ impl YesLine {
         Ok(YesStep::On)
     }
 
-    /// Behind the line of a block, or of their number: so many are left.
+    /// Behind the line of a block, or of the number of blocks, where `left` blocks are left.
     fn end_block(&mut self, alloc: Global, left: u32) -> Result<YesStep, AllocError>
         ensures { IfOk result (λ went. yes_went went self.new ≡ next_block left self.old.parts) }
     {
@@ -587,7 +587,7 @@ impl YesLine {
     }
 }
 
-/// The fixed word whose end leads there.
+/// The fixed word behind which this stands.
 fn spelling(behind: YesBehind) -> &'static [u8]
     ensures { (l : YesLine) → result.now ≡ spelling (behind_of behind l) }
 {

@@ -12,8 +12,9 @@ pub data PolyStack : Type 0 where
   outside : PolyStack
   inside : (p : Polynomial) (c : ℕ) (us : Factors) (x : ℕ) (ps : Arguments) (around : PolyStack) → PolyStack
 
--- what was read since: nothing; `0`; monomials and a `+`; these and digits of a coefficient; a monomial so far and a
--- `*`; this and a `y`; this and digits; a monomial so far that ended with `)`
+-- what was read since the last open parenthesis: nothing; `0`; monomials and a `+`; monomials, a `+` and digits of a
+-- coefficient; a monomial so far and a `*`; a monomial, a `*` and a `y`; a monomial, a `*`, a `y` and digits; a
+-- monomial so far that ended with `)`
 pub data PolyPlace : Type 0 where
   poly_wanted nought : PolyPlace
   added : (p : Polynomial) → PolyPlace

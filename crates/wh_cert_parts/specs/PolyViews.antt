@@ -1,4 +1,4 @@
--- What the values of the reader of polynomials stand for.
+-- The states of the reader of polynomials that the values of its code stand for.
 use Rattle.std.specs.Prelude.{ℕ, List, [], ◌∷◌}
 use Rattle.wh_poly.specs.Erase.{poly, atoms, polys}
 use Rattle.wh_cert_parts.specs.PolyMachine as m

@@ -1,4 +1,4 @@
--- What the values of the reader of terms stand for.
+-- The states of the reader of terms that the values of its code stand for.
 use Rattle.std.specs.Prelude.{List, [], ◌∷◌, Option, Some, None}
 use Rattle.wh_text.specs.Erase.{rty, rtm, rtms}
 use Rattle.wh_cert_parts.specs.TermMachine as m

@@ -1,4 +1,4 @@
--- What the values of the reader of types stand for.
+-- The states of the reader of types that the values of its code stand for.
 use Rattle.std.specs.Prelude.{ℕ, List, [], ◌∷◌}
 use Rattle.wh_text.specs.Erase.{rty, rtys}
 use Rattle.wh_text.specs.declared.raw.RawType.{RawType}

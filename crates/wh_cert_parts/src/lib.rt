@@ -1,4 +1,4 @@
-//! Types, terms and polynomials of a certificate's lines, read byte by byte.
+//! Types, terms and polynomials of a certificate's lines, read byte by byte by machines that hold a stack.
 #![tactic(auto)]
 
 mod poly_reader;

@@ -1,4 +1,4 @@
-//! Polynomials, byte by byte.
+//! The reader of polynomials, byte by byte. `PolyText::step` is its main function. A stack has the open parentheses.
 
 ghost use Rattle.std.specs.Prelude.{◌≡◌, ◌==◌, ◌&&◌, ℕ, nat_lt, IfOk, OnOk, MatchOption};
 ghost use Rattle.wh_types.specs.Limits.{deepest_certificate_polynomial};
@@ -13,26 +13,26 @@ use std::mem;
 use wh_cert_letters::{first_big, first_number, next_big, next_number};
 use wh_poly::{Atom, Atoms, Monomial, Poly, Polys};
 
-/// The parentheses of a polynomial nest that deep.
+/// How deep the parentheses of a polynomial may nest.
 const DEEPEST_POLYNOMIAL: usize = 64;
 
 /// How far a polynomial was read since its last open parenthesis; what is longer than a number stands in the text
 /// itself.
 #[derive(Clone, Copy)]
 pub enum PolyPlace {
-    /// Nothing of a polynomial, which comes.
+    /// No byte of the polynomial that comes.
     Wanted,
     /// `0`.
     Zero,
     /// Monomials and a `+`.
     Added,
-    /// These and digits of a coefficient.
+    /// Monomials, a `+` and digits of a coefficient.
     Coefficient(u128),
     /// A monomial so far and a `*`.
     Factor,
-    /// This and a `y`.
+    /// A monomial so far, a `*` and a `y`.
     Variable,
-    /// This and digits.
+    /// A monomial so far, a `*`, a `y` and digits of the variable's number.
     Head(u32),
     /// A monomial so far that ended with `)`.
     Closed,
@@ -41,29 +41,29 @@ pub enum PolyPlace {
 /// The monomials of a polynomial so far.
 #[derive(Drop)]
 pub struct Part {
-    /// Those that have ended.
+    /// The monomials that have ended.
     pub sum: Poly,
-    /// The coefficient of the present one.
+    /// The coefficient of the monomial that is read.
     pub coefficient: u128,
-    /// Its factors that have ended.
+    /// The factors of that monomial that have ended.
     pub atoms: Atoms,
 }
 
 /// An open parenthesis of a polynomial.
 #[derive(Drop)]
 pub struct PolyFrame {
-    /// What it stands in.
+    /// The polynomial around the parenthesis, as far as it was read.
     pub part: Part,
-    /// The number of its variable.
+    /// The number of the variable before the parenthesis.
     pub head: u32,
     /// The arguments that have ended.
     pub args: Polys,
 }
 
-/// A polynomial so far.
+/// A polynomial as far as it was read.
 #[derive(Drop)]
 pub struct PolyText {
-    /// Its open parentheses.
+    /// The open parentheses of the polynomial.
     pub stack: Vec<PolyFrame>,
     /// How far it was read.
     pub place: PolyPlace,
@@ -71,14 +71,14 @@ pub struct PolyText {
     pub part: Part,
 }
 
-/// Where a byte leads.
+/// Where a byte leads the reader.
 #[derive(Drop)]
 pub enum PolyStep {
-    /// On.
+    /// The polynomial goes on with the byte.
     On,
-    /// Out of the polynomial, which ended before the byte.
+    /// The whole polynomial has ended before the byte.
     Ended(Poly),
-    /// Nowhere.
+    /// The byte is wrong.
     Wrong,
 }
 
@@ -137,7 +137,7 @@ fn join_argument(args: &mut Polys, part: Poly) -> Result<(), AllocError>
 }
 
 impl Part {
-    /// Nothing.
+    /// The part before its first monomial.
     fn new(alloc: Global) -> Result<Part, AllocError>
         ensures { IfOk result (λ part. poly part.sum ≡ zero_poly) }
     {
@@ -175,7 +175,7 @@ fn close_poly(stack: &mut Vec<PolyFrame>) -> Option<PolyFrame>
     stack.pop()
 }
 
-/// The byte opens a parenthesis, and one more may be open.
+/// Whether the byte opens a parenthesis, and one more may be open.
 #[tactic(auto, using(crate::proofs::PolyCode::level_is))]
 fn opens(stack: &[PolyFrame], byte: u8) -> bool
     ensures { result ≡ ((byte == 40) && nat_lt (poly_level (poly_stack stack.now)) deepest_certificate_polynomial) }
@@ -184,7 +184,7 @@ fn opens(stack: &[PolyFrame], byte: u8) -> bool
 }
 
 impl PolyText {
-    /// Before a polynomial.
+    /// The reader before a polynomial.
     pub fn new(alloc: Global) -> Result<PolyText, AllocError>
         ensures stack { IfOk result (λ text. poly_stack text.stack.items ≡ outside) }
         ensures place { IfOk result (λ text. poly_place text ≡ poly_wanted) }
@@ -196,7 +196,7 @@ impl PolyText {
         })
     }
 
-    /// The step from a place in a polynomial.
+    /// Takes one more byte.
     pub fn step(&mut self, alloc: Global, byte: u8) -> Result<PolyStep, AllocError>
         ensures { IfOk result (λ went. poly_went self.new byte went ≡ poly_step (poly_stack self.old.stack.items) (poly_place self.old)
             byte) }
@@ -336,7 +336,8 @@ impl PolyText {
         self.end_poly(sum, byte)
     }
 
-    /// A polynomial has ended before the byte: the whole, or an argument of what the innermost parenthesis belongs to.
+    /// A polynomial has ended before the byte: the whole one, or an argument of the variable before the innermost
+    /// parenthesis.
     fn end_poly(&mut self, sum: Poly, byte: u8) -> Result<PolyStep, AllocError>
         ensures { IfOk result (λ went. poly_went self.new byte went ≡ behind_poly (poly_stack self.old.stack.items) (poly sum) byte) }
     {

@@ -1,4 +1,4 @@
-//! Raw trees as a certificate has them: with place 0 throughout.
+//! Raw trees as a certificate has them: all offsets in them are 0.
 
 ghost use Rattle.std.specs.Prelude.{◌≡◌, IfOk};
 ghost use Rattle.wh_text.specs.RawTree.{raw_type, no_types, numbered_binder, lam, spine};
@@ -21,7 +21,7 @@ pub fn sort(alloc: Global, name: Name) -> Result<RawType, AllocError>
     Ok(functional(RawTypes::new(alloc), name))
 }
 
-/// The abstraction with this binder, its type and its body.
+/// The abstraction with this binder, the type of its variable, and its body.
 pub fn abstraction(
     alloc: Global,
     number: u32,

@@ -1,4 +1,5 @@
-//! Terms up to a line feed, byte by byte.
+//! The reader of a term up to a line feed, byte by byte. `term_step` is its main function. A stack has the open
+//! parentheses.
 
 ghost use Rattle.std.specs.Prelude.{◌≡◌, ◌==◌, ◌&&◌, List, suc, cond, nat_lt, IfOk, OnOk, MatchOption};
 ghost use Rattle.wh_types.specs.Limits.{most_arguments, deepest_certificate_term};
@@ -19,17 +20,17 @@ use std::mem;
 use wh_cert_letters::{Letters, begins_name, first_number, next_number};
 use wh_text::{RawTerm, RawTerms, RawType, RawTypes, opens_in_certificate};
 
-/// The arguments of a spine are that many at most.
+/// The greatest number of arguments of a spine.
 const MOST_ARGUMENTS: usize = 32;
 
 /// An open parenthesis of a term.
 #[derive(Drop)]
 pub enum Frame {
-    /// Of a spine, before its head has ended.
+    /// The parenthesis of a spine, before its head has ended.
     Head,
-    /// Of a spine, with its head and the arguments that have ended.
+    /// The parenthesis of a spine, with its head and the arguments that have ended.
     Spine(Box<RawTerm>, RawTerms),
-    /// Of an abstraction, with its binder.
+    /// The parenthesis of an abstraction, with its binder.
     Body(u32, Box<RawType>),
 }
 
@@ -45,7 +46,7 @@ pub enum Typed {
 /// What was read since the last open parenthesis of a term, or since its last part.
 #[derive(Drop)]
 pub enum TermPlace {
-    /// Nothing of a term, which comes.
+    /// No byte of the term that comes.
     Wanted,
     /// `(`.
     Opened,
@@ -73,27 +74,27 @@ pub enum TermPlace {
     Closed(Box<RawTerm>),
 }
 
-/// A part of a type.
+/// A type as far as it was read, within a term.
 #[derive(Drop)]
 pub struct TypeText {
-    /// Its open parentheses.
+    /// The open parentheses of the type.
     pub stack: Vec<RawTypes>,
-    /// What was read since.
+    /// What was read since the last open parenthesis.
     pub place: TypePlace,
 }
 
-/// Where a byte leads.
+/// Where a byte leads the reader.
 #[derive(Drop)]
 pub enum TermStep {
-    /// On.
+    /// The term goes on at this place.
     Goes(TermPlace),
-    /// Behind the line feed after the term.
+    /// The byte is the line feed behind this whole term.
     Whole(Box<RawTerm>),
-    /// Nowhere.
+    /// The byte is wrong.
     Wrong,
 }
 
-/// The step from a place in a term; the stack has its open parentheses.
+/// The step that the byte makes from a place in a term. The stack has the term's open parentheses.
 pub fn term_step(
     alloc: Global,
     stack: &mut Vec<Frame>,
@@ -128,7 +129,7 @@ pub fn term_step(
     }
 }
 
-/// On to the place with the byte that is wanted.
+/// The step to the place where the byte is the wanted one; else the byte is wrong.
 fn only(want: u8, byte: u8, place: TermPlace) -> TermStep
     ensures { result ≡ cond (byte == want) (Goes place) Wrong }
 {
@@ -156,7 +157,7 @@ fn close_term(stack: &mut Vec<Frame>) -> Option<Frame>
     stack.pop()
 }
 
-/// The byte opens a parenthesis, and one more may be open.
+/// Whether the byte opens a parenthesis, and one more may be open.
 #[tactic(auto, using(crate::proofs::TermCode::level_is))]
 fn opens(stack: &[Frame], byte: u8) -> bool
     ensures { result ≡ ((byte == 40) && nat_lt (level (term_stack stack.now)) deepest_certificate_term) }
@@ -164,7 +165,7 @@ fn opens(stack: &[Frame], byte: u8) -> bool
     byte == b'(' && opens_in_certificate(stack.len())
 }
 
-/// The byte opens a second parenthesis, where one that is not on the stack is open.
+/// Whether the byte opens a second parenthesis, where one that is not on the stack is open already.
 #[tactic(auto, using(crate::proofs::TermCode::next_level))]
 fn opens_second(stack: &[Frame], byte: u8) -> bool
     ensures { result ≡ ((byte == 40) && nat_lt (suc (level (term_stack stack.now))) deepest_certificate_term) }
@@ -172,7 +173,7 @@ fn opens_second(stack: &[Frame], byte: u8) -> bool
     byte == b'(' && opens_in_certificate(stack.len() + 1)
 }
 
-/// The byte begins one more argument behind these and another one, and may.
+/// Whether the byte begins an argument behind these and another one, and the spine may have that argument.
 #[tactic(auto, using(crate::proofs::TermCode::next_argument))]
 fn begins_argument(args: &RawTerms, byte: u8) -> bool
     ensures { result ≡ ((byte == space) && nat_lt (suc (term_count (rtms args.now))) most_arguments) }
@@ -322,7 +323,7 @@ fn step_typing(
     }
 }
 
-/// A type has ended before the byte: that of a variable, or that of a binder before its point.
+/// A type has ended before the byte: the type of a variable, or the type of a binder before its point.
 fn end_type(
     alloc: Global,
     stack: &mut Vec<Frame>,
@@ -348,7 +349,7 @@ fn end_type(
     }
 }
 
-/// A term has ended before the byte: the whole, or a part of what the innermost parenthesis holds.
+/// A term has ended before the byte: the whole one, or a part of what the innermost parenthesis holds.
 fn end_term(
     alloc: Global,
     stack: &mut Vec<Frame>,

@@ -1,4 +1,5 @@
-//! Types, byte by byte.
+//! The reader of types, byte by byte. `type_step` is its main function. A stack has the arguments that were read in
+//! each open parenthesis.
 
 ghost use Rattle.std.specs.Prelude.{◌≡◌, ◌==◌, ◌&&◌, nat_lt, IfOk, OnOk, MatchOption};
 ghost use Rattle.wh_types.specs.Limits.{deepest_certificate_type, most_certificate_arguments};
@@ -12,16 +13,16 @@ use std::alloc::{AllocError, Global};
 use wh_cert_letters::{Letters, begins_name};
 use wh_text::{RawType, RawTypes};
 
-/// The arguments of a type are that many at most.
+/// The greatest number of arguments of a type.
 const MOST_ARGUMENTS: usize = 64;
 
-/// The parentheses of a type nest that deep.
+/// How deep the parentheses of a type may nest.
 const DEEPEST_TYPE: usize = 18;
 
 /// What was read since the last open parenthesis of a type.
 #[derive(Drop)]
 pub enum TypePlace {
-    /// Nothing of a type, which comes.
+    /// No byte of the type that comes.
     Wanted,
     /// Letters of a sort's name.
     Name(Letters),
@@ -31,18 +32,19 @@ pub enum TypePlace {
     Closed(RawType),
 }
 
-/// Where a byte leads.
+/// Where a byte leads the reader.
 #[derive(Drop)]
 pub enum TypeStep {
-    /// On.
+    /// The type goes on at this place.
     Goes(TypePlace),
-    /// Out of the type, which ended before the byte.
+    /// The whole type has ended before the byte.
     Ended(RawType),
-    /// Nowhere.
+    /// The byte is wrong.
     Wrong,
 }
 
-/// The step from a place in a type; the stack has the arguments that were read in each open parenthesis.
+/// The step that the byte makes from a place in a type. The stack has the arguments that were read in each open
+/// parenthesis.
 pub fn type_step(
     alloc: Global,
     stack: &mut Vec<RawTypes>,
@@ -77,7 +79,7 @@ fn close_type(stack: &mut Vec<RawTypes>) -> Option<RawTypes>
     stack.pop()
 }
 
-/// One more argument may stand in the innermost parenthesis.
+/// Whether one more argument may stand in the innermost parenthesis.
 fn has_room(stack: &[RawTypes]) -> bool
     ensures { result ≡ has_room (type_stack stack.now) }
 {
@@ -87,7 +89,7 @@ fn has_room(stack: &[RawTypes]) -> bool
     }
 }
 
-/// One more parenthesis may open.
+/// Whether one more parenthesis may open.
 #[tactic(auto, using(crate::proofs::TypeCode::level_is))]
 fn may_open(stack: &[RawTypes]) -> bool
     ensures { result ≡ (nat_lt (type_level (type_stack stack.now)) deepest_certificate_type && has_room (type_stack stack.now)) }
@@ -95,7 +97,7 @@ fn may_open(stack: &[RawTypes]) -> bool
     stack.len() < DEEPEST_TYPE && has_room(stack)
 }
 
-/// The byte opens a parenthesis, and may.
+/// Whether the byte opens a parenthesis, and one more may open.
 fn opens(stack: &[RawTypes], byte: u8) -> bool
     ensures { result ≡ ((byte == 40)
         && (nat_lt (type_level (type_stack stack.now)) deepest_certificate_type && has_room (type_stack stack.now))) }
@@ -103,7 +105,7 @@ fn opens(stack: &[RawTypes], byte: u8) -> bool
     byte == b'(' && may_open(stack)
 }
 
-/// The byte begins an arrow behind one more argument, and may.
+/// Whether the byte begins an arrow behind one more argument, and that argument may stand there.
 #[tactic(auto, using(crate::proofs::RawLaws::rtys_count))]
 fn begins_arrow(args: &RawTypes, byte: u8) -> bool
     ensures { result ≡ ((byte == 45) && nat_lt (type_count (rtys args.now)) most_certificate_arguments) }
@@ -111,7 +113,7 @@ fn begins_arrow(args: &RawTypes, byte: u8) -> bool
     byte == b'-' && args.as_slice().len() < MOST_ARGUMENTS
 }
 
-/// The byte closes a parenthesis with these arguments in it, and may.
+/// Whether the byte closes a parenthesis with these arguments in it, and may close it.
 #[tactic(auto, using(crate::proofs::TypeCode::has_types_is))]
 fn closes(args: &RawTypes, byte: u8) -> bool
     ensures { result ≡ ((byte == 41) && has_types (rtys args.now)) }

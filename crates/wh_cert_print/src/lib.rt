@@ -1,4 +1,4 @@
-//! The texts of certificates, printed.
+//! Printing certificates: `print_certificate` gives the one text of a certificate.
 #![tactic(auto)]
 
 mod poly_printer;

@@ -1,5 +1,5 @@
-//! The text of polynomials. Each printer appends to a list of bytes; without memory the list may have got a front of
-//! the text.
+//! The text of polynomials. Each printer appends to a list of bytes. Where memory is wanting the list may have got the
+//! first bytes of the text.
 
 ghost use Rattle.std.specs.Prelude.{◌≡◌, ◌++◌, OnOk};
 ghost use Rattle.std.specs.Fmt.{decimal};

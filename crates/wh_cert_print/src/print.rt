@@ -1,5 +1,5 @@
-//! The text of a certificate. Each printer appends to a list of bytes; without memory the list may have got a front of
-//! the text.
+//! The text of a certificate. `print_certificate` is the main function; each other printer appends to a list of bytes.
+//! Where memory is wanting the list may have got the first bytes of the text.
 
 ghost use Rattle.std.specs.Prelude.{◌≡◌, ◌++◌, map, IfOk, OnOk};
 ghost use Rattle.std.specs.Fmt.{decimal};
@@ -70,7 +70,7 @@ fn print_entry(out: &mut Bytes, number: u32) -> Result<(), AllocError>
     print_number(out, number)
 }
 
-/// Appends how many there are, in decimal digits.
+/// Appends a count in decimal digits.
 fn print_count(out: &mut Bytes, count: usize) -> Result<(), AllocError>
     ensures { OnOk result (out.new ≡ out.old ++ decimal count) }
 {

@@ -1,5 +1,5 @@
-//! The text of the lines of a node of a path order. Each printer appends to a list of bytes; without memory the list
-//! may have got a front of the text.
+//! The text of the lines of a node of a path order. Each printer appends to a list of bytes. Where memory is wanting
+//! the list may have got the first bytes of the text.
 
 ghost use Rattle.std.specs.Prelude.{map, OnOk};
 ghost use Rattle.wh_text.specs.Pushes.{Pushes};

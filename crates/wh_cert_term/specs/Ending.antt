@@ -1,4 +1,4 @@
--- The end of a term's text. A working form: none of it is told to a caller.
+-- The end of a term's text. This is a working form, which callers do not see.
 use Rattle.std.specs.Prelude.{◌≡◌}
 use Rattle.wh_text.specs.Chars.{line_feed}
 use Rattle.wh_text.specs.RawTree.{RTm}

@@ -1,4 +1,4 @@
--- The text of a term by itself.
+-- `IsTermText`: bytes are the text of a term by itself, as `reduce` gets it.
 use Rattle.std.specs.Prelude.{ℕ, ◌≡◌, List}
 use Rattle.wh_text.specs.RawTree.{RTm}
 use Rattle.wh_text.specs.Spelling.{spelled}

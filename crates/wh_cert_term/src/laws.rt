@@ -1,4 +1,4 @@
-//! The law of texts of terms, the contract of a function that does nothing.
+//! The law of texts of terms: bytes are the text of one term at most.
 
 ghost use Rattle.std.specs.Prelude.{◌≡◌, ℕ, List};
 ghost use Rattle.wh_text.specs.RawTree.{RTm};

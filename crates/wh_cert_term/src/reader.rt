@@ -1,4 +1,4 @@
-//! The reader of a term's text.
+//! The reader of a term's text, as `reduce` gets it.
 //!
 //! It goes by the machine that reads the lines of a certificate, and hands it a line feed after the last byte.
 
@@ -25,8 +25,8 @@ fn ended(alloc: Global, stack: Vec<Frame>, place: TermPlace) -> Result<Option<Ra
     }
 }
 
-/// The term of which the bytes are the text, within the limits of certificates; `None` exactly where they are the text
-/// of none.
+/// The term whose text the bytes are, within the limits of certificates; `None` exactly where they are the text of no
+/// term.
 pub fn read_term(alloc: Global, bytes: &[u8]) -> Result<Option<RawTerm>, AllocError>
     ensures { IfOk result (λ o. MatchOption o ((t : RTm) → IsTermText t bytes.now → ⊥) (λ r. IsTermText (rtm r) bytes.now)) }
 {

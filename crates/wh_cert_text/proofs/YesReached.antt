@@ -14,7 +14,7 @@ use Rattle.wh_cert.specs.Limits.{NodeFits, IsVersion, IsOfVersion, FilterWithin,
 use Rattle.wh_cert_machines.specs.YesMachine.{Item, version_item, ranks_item, pairs_item, node_item, end_item, to_version, Place, word, finished, LineStep, on, gives, refused, step, Past, so_far, nothing, gather, version_of, wants}
 use Rattle.wh_cert_text.proofs.YesSound.{put_nodes_add, Stage, opening, first, second, third, stage, item_from, item_to, PlaceReads, item_text, GoodNumbers, GoodPlace, PlaceFor, ItemGood, PlaceAfter, LineNext, lead_kept}
 
--- the nodes so far, with so many trees behind them, are one tree
+-- the nodes so far, with k trees behind them, are one tree
 abbrev pub Partial : ℕ → List Node → Type 0
 Partial k nodes = (rest : List Node) → Preorder k rest → Preorder 1 (nodes ++ rest)
 

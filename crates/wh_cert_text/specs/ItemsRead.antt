@@ -24,14 +24,14 @@ abbrev pub put_items : List Item → List ℕ → List ℕ
 put_items [] r = r
 put_items (i ∷ is) r = put_item i (put_items is r)
 
--- these are the first items of the certificate, and those whose last line feed stands in the bytes: the bytes begin
--- with the lines of these items, and not with those of one item more
+-- `is` are the first items of the certificate, as far as their last line feeds stand in the bytes: the bytes begin with
+-- the lines of these items, and not with the lines of one item more
 pub record WholeItems (bytes : List ℕ) (c : Cert) (is : List Item) : Type 0 where
   pub rest : List Item
   pub front : items c ≡ is ++ rest
   pub begun : (q : List ℕ) × (bytes ≡ put_items is q)
   pub no_more : (i : Item) (more : List Item) (q : List ℕ) → rest ≡ i ∷ more → bytes ≡ put_items (is ++ i ∷ []) q → ⊥
 
--- these are the items whose last line feed stands in the bytes, of each certificate whose text they begin
+-- `is` are the items whose last line feed stands in the bytes, of each certificate whose text they begin
 abbrev pub ItemsIn : List ℕ → List Item → Type 0
 ItemsIn bytes is = (c : Cert) (r : List ℕ) → CertText (bytes ++ r) c → WholeItems bytes c is

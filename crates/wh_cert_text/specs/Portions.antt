@@ -1,4 +1,4 @@
--- What several bytes do that are given to a reader at once.
+-- Several bytes given to a reader at once: how far they lead, and which items they end.
 use Rattle.std.specs.Prelude.{ℕ, ◌≡◌, ◌+◌, ◌<◌, ◌≤◌, List, [], ◌∷◌, ◌++◌, length, take, Result, Ok, Err}
 use Rattle.std.specs.Option.{option_map, option_to_list}
 use Rattle.wh_types.specs.declared.want.Or.{Or}
@@ -26,8 +26,8 @@ IsWithin bytes (Wrong n) = n < length bytes
 abbrev pub Adds : List ℕ → List ℕ → List Item → Type 0
 Adds p q more = (is : List Item) → ItemsIn p is → ItemsIn (p ++ q) (is ++ more)
 
--- how far the bytes led behind p, where T holds of the standing: by all of them, and no item is whole; by so many, and
--- that item is; or the byte behind so many is the first wrong one
+-- how far the bytes led behind p, where T holds of the place that they led to: by all of them, and no item is whole; by
+-- n of them, and this item is whole; or the byte behind n of them is the first wrong one
 abbrev pub HasRun : (Standing → Type 0) → List ℕ → List ℕ → Stretch → Type 0
 HasRun T p bytes On = T (run start (p ++ bytes)) × Adds p bytes []
 HasRun T p bytes (Whole n i) = T (run start (p ++ take n bytes)) × Adds p (take n bytes) (said_item i ∷ [])

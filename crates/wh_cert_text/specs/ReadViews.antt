@@ -48,7 +48,7 @@ after fed.Wrong s = m.wrong
 abbrev pub wanted : y.Past → ℕ
 wanted (y.so_far version ranks pairs nodes k) = k
 
--- their number fits into its place
+-- the number of wanted nodes fits into its place
 abbrev pub few : m.Standing → Type 0
 few (m.stands_yes h p) = wanted h < 2 ^ 64
 few _ = Unit {0}

@@ -1,4 +1,5 @@
-//! Certificates byte by byte: each item is handed out where its last line is whole, and none is kept.
+//! The reader of certificates, byte by byte. `CertReader::feed` takes one byte and `feed_some` takes several. They hand
+//! out each item where its last line is whole, and keep none.
 
 ghost use Rattle.std.specs.Prelude.{◌≡◌, ◌∷◌, ◌++◌, [], ◌<◌, ◌-◌, ◌^◌, ◌+◌, List, ℕ, OnOk, IfOk, IfErr, length};
 ghost use Rattle.std.specs.Option.{option_map, option_to_list};
@@ -25,12 +26,12 @@ use wh_cert::{CertSyntax, Item};
 use wh_cert_machines::{LinePlace, NoLine, Progress, YesItems, YesPlace};
 use wh_types::Or;
 
-/// Bytes that were taken.
+/// What a call that takes several bytes did.
 #[derive(Drop)]
 pub struct Portion {
-    /// How many of those that were given.
+    /// How many of the given bytes were taken.
     pub taken: usize,
-    /// The item whose last line the last of them ends.
+    /// The item whose last line ends with the last taken byte.
     pub item: Option<Item>,
 }
 
@@ -43,7 +44,7 @@ pub struct CertReader {
 }
 
 impl CertReader {
-    /// Before the first byte.
+    /// The reader before the first byte.
     pub fn new(alloc: Global) -> CertReader
         ensures stands { StandsFor result [] }
         ensures items { ItemsIn [] [] }
@@ -58,8 +59,8 @@ impl CertReader {
     /// Takes one more byte, and hands out the item whose last line it ends. Without memory it is not taken, nor is any
     /// later one.
     ///
-    /// # Errors
-    /// The bytes begin no certificate text, with the number of those that do. Once this has come it comes at each call.
+    /// # Errors The bytes begin no certificate text; the fault has the number of those that do. Once it has come it
+    /// comes at each call.
     pub fn feed(&mut self, byte: u8) -> Result<Option<Item>, Or<CertSyntax>>
         requires { (p : List ℕ) × StandsFor self.old p × (length p < 2 ^ 32 - 1) }
         ensures on { OnOk result ((p : List ℕ) → StandsFor self.old p → length p < 2 ^ 32 - 1
@@ -80,11 +81,11 @@ impl CertReader {
         }
     }
 
-    /// Takes some of the bytes, at least one, and none behind one that ends the last line of an item. That is what
-    /// `feed` does with them one by one, and quicker. Without memory the reader stands for nothing any more.
+    /// Takes some of the bytes, at least one, and none behind one that ends the last line of an item. It does with them
+    /// what `feed` does one by one, and quicker. Without memory the reader stands for nothing any more.
     ///
-    /// # Errors
-    /// The bytes begin no certificate text, with the number of those that do. Once this has come it comes at each call.
+    /// # Errors The bytes begin no certificate text; the fault has the number of those that do. Once it has come it
+    /// comes at each call.
     pub fn feed_some(&mut self, bytes: &[u8]) -> Result<Portion, Or<CertSyntax>>
         requires some { 0 < length bytes.now }
         requires few { (p : List ℕ) × StandsFor self.old p × (length p + length bytes.now < 2 ^ 32) }
@@ -100,10 +101,9 @@ impl CertReader {
         }
     }
 
-    /// The bytes are all.
+    /// Ends the reading: there are no more bytes.
     ///
-    /// # Errors
-    /// They are no certificate text.
+    /// # Errors The bytes are no certificate text.
     pub fn finish(self) -> Result<(), CertSyntax>
         ensures whole { OnOk result ((p : List ℕ) → StandsFor self p → length p < 2 ^ 32
             → (c : Cert) × CertText p c × ((is : List said) → ItemsIn p is → is ≡ items c)) }
@@ -128,14 +128,14 @@ impl CertReader {
         }
     }
 
-    /// The byte is wrong.
+    /// Refuses the byte, which is wrong.
     fn refuse(&mut self) -> Result<Option<Item>, Or<CertSyntax>>
         ensures { Refuses self.old self.new result }
     {
         Err(Or::Because(self.refused()))
     }
 
-    /// On to there by so many bytes.
+    /// Goes on to the place that `count` bytes led to.
     fn go(&mut self, at: Progress, count: usize)
         requires { self.old.taken + count < 2 ^ 32 }
         ensures at { self.new.at ≡ at }
@@ -202,7 +202,7 @@ impl CertReader {
         }
     }
 
-    /// Of the first bytes one alone is taken.
+    /// Takes the first byte alone of the first bytes.
     fn begin_some(&mut self, bytes: &[u8]) -> Result<Portion, Or<CertSyntax>>
         requires some { 0 < length bytes.now }
         requires room { self.old.taken + length bytes.now < 2 ^ 32 }
@@ -216,7 +216,7 @@ impl CertReader {
         }
     }
 
-    /// The bytes are refused from now on.
+    /// Refuses the bytes from now on.
     fn refused(&mut self) -> CertSyntax
         ensures place { result.at ≡ self.old.taken }
         ensures taken { self.new.taken ≡ self.old.taken }
@@ -225,7 +225,7 @@ impl CertReader {
         self.at.refuse(self.taken)
     }
 
-    /// The bytes come behind a wrong one.
+    /// Refuses bytes that come behind a wrong one.
     fn refuse_some(&mut self) -> Result<Portion, Or<CertSyntax>>
         ensures { RefusesSome self.old self.new result }
     {
@@ -264,7 +264,7 @@ impl CertReader {
         self.go_on(Progress::No(line), stretch, bytes)
     }
 
-    /// The lines went on to there by the bytes.
+    /// Goes on to the place that the bytes led the lines to.
     fn go_on(
         &mut self,
         at: Progress,

@@ -1,4 +1,4 @@
-//! The items that lines of either kind hand out.
+//! The items that the lines of a YES or a NO certificate hand out, byte by byte or several bytes at once.
 
 ghost use Rattle.std.specs.Prelude.{◌≡◌, ◌+◌, ◌<◌, ◌^◌, ℕ, List, length, IfOk, OnErr, MatchOption};
 ghost use Rattle.wh_cert.specs.Said.{said_node};
@@ -25,24 +25,24 @@ use wh_types::Numbers;
 /// Where a byte led.
 #[derive(Drop)]
 pub enum Taken {
-    /// On, with the item whose last line it ends.
+    /// The certificate goes on with the byte, and this item's last line ends with it.
     On(Option<Item>),
-    /// Nowhere.
+    /// The byte is wrong.
     Wrong,
 }
 
 /// How far some bytes led.
 #[derive(Drop)]
 pub enum Stretch {
-    /// On by all of them, and no item is whole.
+    /// All of them were taken, and no item is whole.
     On,
-    /// On by so many, with the item whose last line the last of them ends.
+    /// This number of bytes was taken, and the last of them ends the last line of this item.
     Whole(usize, Item),
-    /// Nowhere: the byte behind so many is wrong.
+    /// The first `n` bytes can be taken, the next byte is wrong.
     Wrong(usize),
 }
 
-/// Behind the first byte of a YES certificate.
+/// The reader behind the first byte of a YES certificate.
 pub fn begin_yes(alloc: Global) -> Result<YesItems, AllocError>
     ensures { IfOk result Begun }
 {
@@ -128,7 +128,7 @@ fn hand_out(lines: &mut YesItems, alloc: Global, item: YesItem) -> Result<Option
     }
 }
 
-/// How many nodes are wanted behind this one, its children in its place.
+/// How many nodes are wanted behind this one, where its children are wanted in its place.
 fn wanted_behind(node: &Node, wanted: u64) -> Option<u64>
     ensures { MatchOption result (Unit {0}) (λ n. (h : y.Past) → wanted_of h ≡ wanted
         → wanted_of (y.gather h (y.node_item (said_node node.now))) ≡ n) }

@@ -1,4 +1,4 @@
-//! Certificates and their texts determine one another.
+//! Laws of certificates and their texts: each determines the other, and bytes that are no text have one place of fault.
 
 ghost use Rattle.std.specs.Prelude.{◌≡◌, ◌<◌, ◌^◌, ◌⊎◌, ℕ, List, [], ◌++◌, length};
 ghost use Rattle.wh_cert.specs.Written.{Cert};

@@ -1,4 +1,4 @@
-//! The texts of certificates, read byte by byte.
+//! Reading certificates from their bytes: whole by `read_certificate`, or item by item by `CertReader`.
 #![tactic(auto)]
 
 mod cert_reader;

@@ -1,4 +1,5 @@
-//! Certificates, read from their bytes.
+//! Reading a whole certificate from its bytes. `read_certificate` is the main function; `CertReader` reads one without
+//! keeping it.
 
 ghost use Rattle.std.specs.Prelude.{◌≡◌, ◌<◌, ◌^◌, IfOk, OnOk, MatchOption, length};
 ghost use Rattle.wh_types.specs.Outcome.{IfBecause};
@@ -22,9 +23,9 @@ use wh_types::{Numbers, Or};
 /// Where a byte led.
 #[derive(Clone, Copy)]
 pub enum Fed {
-    /// On.
+    /// The certificate goes on with the byte.
     On,
-    /// Nowhere.
+    /// The byte is wrong.
     Wrong,
 }
 
@@ -39,12 +40,12 @@ pub struct NoReader {
     pub steps: Steps,
     /// The place of the instance.
     pub at: Option<Path>,
-    /// What is put for variables.
+    /// The terms that are put for variables.
     pub puts: Puts,
 }
 
 impl NoReader {
-    /// Behind the first byte.
+    /// The reader behind the first byte.
     fn new(alloc: Global) -> Result<NoReader, AllocError>
         ensures { IfOk result (λ reader. no_standing reader ≡ first_byte 78) }
     {
@@ -154,7 +155,7 @@ pub struct YesReader {
 }
 
 impl YesReader {
-    /// Behind the first byte.
+    /// The reader behind the first byte.
     fn new(alloc: Global) -> Result<YesReader, AllocError>
         ensures { IfOk result (λ reader. yes_standing reader ≡ first_byte 89) }
     {
@@ -233,7 +234,7 @@ impl YesReader {
     }
 }
 
-/// For how many sets a node leaves the same to be shown.
+/// How many children a node has: for each a set of pairs is left to be proved.
 pub fn children(node: &Node) -> u64
     ensures { result ≡ children (said_node node.now) }
 {
@@ -247,11 +248,11 @@ pub fn children(node: &Node) -> u64
 /// A certificate so far.
 #[derive(Drop)]
 pub enum Reader {
-    /// Before its first byte.
+    /// The certificate before its first byte.
     Unread,
-    /// Of a YES certificate.
+    /// Within a YES certificate.
     Yes(Box<YesReader>),
-    /// Of a NO certificate.
+    /// Within a NO certificate.
     No(Box<NoReader>),
 }
 
@@ -294,8 +295,8 @@ impl Reader {
     }
 }
 
-/// The certificate of which these bytes are the text. A fault is that they are the text of none, with the number of
-/// bytes that begin the text of one.
+/// The certificate whose text the bytes are. The fault of bytes that are no certificate's text has the number of bytes
+/// that begin such a text.
 pub fn read_certificate(alloc: Global, bytes: &[u8]) -> Result<Certificate, Or<CertSyntax>>
     requires { length bytes.now < 2 ^ 32 }
     ensures read { IfOk result (λ certificate. CertText bytes.now (said certificate)) }

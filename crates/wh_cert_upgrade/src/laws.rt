@@ -1,4 +1,4 @@
-//! Upgraded certificates have texts.
+//! Laws of upgraded certificates: they are within the limits of the format, so they have texts.
 
 ghost use Rattle.std.specs.Prelude.{◌≤◌, ℕ};
 ghost use Rattle.wh_types.specs.Limits.{greatest_number};

@@ -1,4 +1,4 @@
-//! Copies of lists of numbers and of names.
+//! Copies of lists of numbers, of paths and of names, for copies of certificates.
 
 ghost use Rattle.std.specs.Prelude.{◌≡◌, IfOk};
 ghost use Rattle.wh_reduction_pairs.specs.TaskData.{numbers_from};

@@ -1,4 +1,4 @@
-//! Copies of NO certificates.
+//! Copies of NO certificates, which no upgrade changes.
 
 ghost use Rattle.std.specs.Prelude.{◌≡◌, map, IfOk};
 ghost use Rattle.wh_cert.specs.Said.{said_no, said_put};

@@ -1,4 +1,4 @@
-//! Copies of nodes.
+//! Copies of the nodes of a YES certificate.
 
 ghost use Rattle.std.specs.Prelude.{◌≡◌, map, IfOk};
 ghost use Rattle.wh_cert.specs.Said.{said_interp, said_poly, said_order, said_node};

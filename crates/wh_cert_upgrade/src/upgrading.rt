@@ -1,4 +1,4 @@
-//! Certificates of the second version.
+//! Certificates of version 1, made certificates of version 2. `upgrade` is the main function.
 
 ghost use Rattle.std.specs.Prelude.{◌≡◌, ℕ, map, Some, IfOk};
 ghost use Rattle.wh_reduction_pairs.specs.TaskData.{numbers_from};
@@ -12,9 +12,9 @@ use std::alloc::{AllocError, Global};
 use wh_cert::{Certificate, Node, Nodes, PolyNode, YesCertificate};
 use wh_types::Numbers;
 
-/// The certificate for a system with so many rules as one of version 2: a YES certificate of version 1 gets that
+/// The certificate for a system with `rules` rules as one of version 2: a YES certificate of version 1 gets that
 /// version, and each of its nodes of interpretations the list of all rules. Any other certificate is copied as it is.
-/// It says the same of the system.
+/// The new certificate says the same of the system.
 pub fn upgrade(
     alloc: Global,
     certificate: &Certificate,
@@ -55,8 +55,8 @@ fn upgrade_yes(
     })
 }
 
-/// The nodes as nodes of version 2 for a system with so many rules, in the same order: each node of interpretations
-/// that lists no rules gets the list of all of them.
+/// The nodes as nodes of version 2 for a system with `rules` rules, in their order: each node of interpretations that
+/// lists no rules gets the list of all of them.
 #[tactic(auto, using(crate::proofs::Copies::upgraded_joins, crate::proofs::Copies::upgraded_end))]
 pub fn upgrade_nodes(alloc: Global, nodes: &[Node], rules: u32) -> Result<Nodes, AllocError>
     ensures { IfOk result (λ made. map said_node made ≡ map (upgraded_node rules) (map said_node nodes.now)) }

@@ -1,4 +1,4 @@
-//! What an upgraded certificate proves.
+//! Laws of what an upgraded certificate proves: it is valid, and small, exactly where the first one is.
 
 ghost use Rattle.std.specs.Prelude.{◌↔◌, List, length};
 ghost use Rattle.wh_system.specs.Systems.{SystemData};
@@ -15,7 +15,7 @@ pub fn upgraded_certificates_are_as_valid()
         → (IsValidCert d ps (upgraded (length d.rules) c) ↔ IsValidCert d ps c) }
 {}
 
-/// It is small exactly where the upgraded one is.
+/// The certificate is small exactly where the upgraded one is.
 pub fn upgraded_certificates_are_as_small()
     ensures { (d : SystemData) (ps : List PairData) (c : Cert) → IsCert c
         → (IsSmallCert d ps (upgraded (length d.rules) c) ↔ IsSmallCert d ps c) }

@@ -10,7 +10,7 @@ use Rattle.wh_cert_upgrade.specs.Upgraded.{upgraded_node}
 abbrev pub IsFirst : code.Node → Type 0
 IsFirst node = IsOfVersion 1 (said_node node)
 
--- the certificate of these nodes for a system with so many rules: of the first version where each node is of it; else
+-- the certificate of these nodes for a system with `rules` rules: of the first version where each node is of it; else
 -- of the second one, where each node of interpretations that lists no rules gets the list of all
 pub data IsCertificateOf (rules : ℕ) (ranks : List ℕ) (pairs : ℕ) (lines : List Node) : Cert → Type 0 where
   first : All (IsOfVersion 1) lines → IsCertificateOf rules ranks pairs lines (yes 1 ranks pairs lines)

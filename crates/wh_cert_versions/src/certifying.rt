@@ -1,4 +1,4 @@
-//! The certificate of a tree of nodes.
+//! The certificate of a tree of nodes, in the lowest version that can say all of them.
 
 ghost use Rattle.std.specs.Prelude.{◌↔◌, All, IfOk, IsTrue, map};
 ghost use Rattle.wh_cert.specs.Said.{said_node, said_yes};
@@ -9,7 +9,7 @@ use wh_cert::{Node, Nodes, YesCertificate};
 use wh_cert_upgrade::upgrade_nodes;
 use wh_types::Numbers;
 
-/// The certificate of these nodes for a system with so many rules. It is of version 1 where each node is of that
+/// The certificate of these nodes for a system with `rules` rules. It is of version 1 where each node is of that
 /// version; else it is of version 2, and a node of interpretations that lists no rules gets the list of all.
 #[tactic(auto, using(crate::proofs::CertificateLemmas::certificate_first, crate::proofs::CertificateLemmas::certificate_second))]
 pub fn certificate_of(

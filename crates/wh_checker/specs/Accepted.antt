@@ -1,4 +1,4 @@
--- What an accepted certificate comes to.
+-- The meaning of an accepted certificate: all well-typed terms are bounded, or its term is unbounded.
 use Rattle.std.specs.Prelude.{◌≡◌, List, length}
 use Rattle.wh_terms.specs.Tree.{Tm}
 use Rattle.wh_terms.specs.Typing.{WellTyped}

@@ -99,19 +99,19 @@ at_rule k r (moves.OverSpent i) = row.OverSpentRule k r i
 at_rule k r (moves.NotCovered j) = row.NotCoveredRule k r j
 at_rule k r moves.NotStrict = row.NotStrict k r
 
--- and of the moves for a pair
+-- the fault of the moves for a pair
 abbrev pub at_pair : ℕ → ℕ → CoverFault → Rejected
 at_pair k a (moves.BadMove e) = row.BadMovePair k a e
 at_pair k a (moves.OverSpent i) = row.OverSpentPair k a i
 at_pair k a (moves.NotCovered j) = row.NotCoveredPair k a j
 at_pair k a moves.NotStrict = row.NotStrict k a
 
--- what it is called that a value exceeds a limit in a node
+-- the fault where a value exceeds a limit in a node
 abbrev pub in_excess : ℕ → Excess → CheckFault
 in_excess k excess.Overflow = check.Overflow k
 in_excess k excess.TooLarge = check.TooLarge k
 
--- what it is called that the rules that are to be covered are not closed
+-- the rejection where the rules that are to be covered are not closed
 abbrev pub at_open : ℕ → NotClosed → Rejected
 at_open k (not_closed.Rule r) = row.NotClosedRule k r
 at_open k (not_closed.Pair a) = row.NotClosedPair k a

@@ -1,4 +1,4 @@
-//! The check of a certificate.
+//! The check of a whole certificate over a system. `check` is the main function.
 
 ghost use Rattle.std.specs.Prelude.{◌≡◌, ◌≤◌, IfErr, IfOk, List, OnOk, length, map};
 ghost use Rattle.wh_types.specs.Outcome.{IfBecause, MatchOr};

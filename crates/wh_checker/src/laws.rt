@@ -20,7 +20,7 @@ ghost use Rattle.wh_checker.specs.declared.rejected.Rejected.{Rejected};
 use wh_no::valid_claims_are_unbounded;
 use wh_step::bounded_or_unbounded;
 
-/// One fault at most is the first of a certificate, but that values may exceed both limits in one node.
+/// A certificate has one first fault at most. The one exception: a node's values may exceed both limits.
 pub fn one_first_fault()
     ensures { (m : Limits) (d : SystemData) (ps : List PairData) (c : Cert) (f g : CheckFault) → IsWellMadeSystem d
         → IsFirstFault m d ps c f → IsFirstFault m d ps c g → AreAlike f g }
@@ -53,8 +53,8 @@ pub fn valid_or_at_fault()
         ⊎ ((f : CheckFault) × IsFirstFault without_limits d ps c f) }
 {}
 
-/// So with limits: a certificate is valid, and no value exceeds one, or it has a first fault. So the check has an
-/// answer for each certificate.
+/// A certificate within the limits of the format is valid, and no value exceeds a limit, or it has a first fault. So
+/// the check has an answer for each certificate.
 pub fn accepted_or_at_fault()
     ensures { (d : SystemData) (ps : List PairData) (c : Cert) → IsWellMadeSystem d → IsCert c
         → (IsValidCert d ps c × IsSmallCert d ps c) ⊎ ((f : CheckFault) × IsFirstFault with_limits d ps c f) }

@@ -190,7 +190,8 @@ fn covered(
     covered_by(alloc, &task, set, node, &readings)
 }
 
-// The same under the readings that its lines say, for a task of the set with the rules that the node is to cover.
+// Whether the conditions of a node of interpretations hold under the readings that its lines say. The task is the set
+// with the rules that the node is to cover.
 fn covered_by<'a, 'b>(
     alloc: Global,
     task: &Task<'a>,
@@ -248,7 +249,8 @@ fn oriented(
     oriented_by(alloc, &task, set, node, &filters)
 }
 
-// The same under the filters that its lines say, for a task of the set in which all rules are to be covered.
+// Whether the conditions of a node of a path order hold under the filters that its lines say. The task is the set with
+// all rules to be covered.
 fn oriented_by<'a>(
     alloc: Global,
     task: &Task<'a>,

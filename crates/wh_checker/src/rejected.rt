@@ -1,4 +1,4 @@
-//! Why a certificate is refused.
+//! Rejections: why the check refuses a certificate. The program prints each as a word and numbers.
 
 ghost use Rattle.std.specs.Prelude.{◌≡◌};
 ghost use Rattle.wh_checker.specs.Faults.{at_covering, at_node, at_open, at_ordering, at_pair, at_rule, in_excess, of_claim};
@@ -26,9 +26,9 @@ pub enum NodeFault {
         /// The pair.
         pair: u32,
     },
-    /// Of a node `blocks`.
+    /// The fault of a node `blocks`.
     Blocks(BlockFault),
-    /// Of a node `subterm`.
+    /// The fault of a node `subterm`.
     Subterm(SubtermFault),
     /// The list of a node `poly` is not one of rules, each above the one before.
     BadUsable,
@@ -134,7 +134,8 @@ pub enum Rejected {
         node: u32,
         rule: u32,
     },
-    /// The same of the first pair of the set.
+    /// Not all rules are to be covered, and this is the first pair of the set that is not first-order, or calls a rule
+    /// that is not one of them.
     NotClosedPair {
         node: u32,
         pair: u32,
@@ -203,8 +204,8 @@ pub enum Rejected {
         pair: u32,
         entry: u32,
     },
-    /// This pair is dropped, and its left side has no constant, or the moves leave none of it, or its inference is that
-    /// of equal trees.
+    /// This pair is dropped, but not shown to shrink: its left side has no constant, or the moves leave none of it, or
+    /// its inference is that of equal trees.
     NotStrict {
         node: u32,
         pair: u32,
@@ -221,11 +222,11 @@ pub enum Rejected {
     TooBig {
         index: u32,
     },
-    /// This line of what is put for a variable is the first that is not right.
+    /// This line of a term that is put for a variable is the first that is not right.
     BadPut {
         index: u32,
     },
-    /// There is no such place in the last term, or what stands there is not the instance.
+    /// The last term has no such position, or the part that stands there is not the instance.
     NoInstance,
 }
 
@@ -311,7 +312,7 @@ fn at_covering(node: u32, fault: CoveringFault) -> CheckFault
     }
 }
 
-// That the rules that are to be covered are not closed.
+// The rejection where the rules that are to be covered are not closed.
 fn at_open(node: u32, fault: NotClosed) -> Rejected
     ensures { result ≡ at_open node fault }
 {
@@ -341,7 +342,7 @@ fn in_pair_line(node: u32, pair: u32, fault: LineFault) -> CheckFault
     }
 }
 
-// That a value exceeds a limit in the node.
+// The fault where a value exceeds a limit in the node.
 fn in_excess(node: u32, excess: Excess) -> CheckFault
     ensures { result ≡ in_excess node excess }
 {

@@ -1,4 +1,4 @@
-//! The walk through the nodes of a YES certificate.
+//! The walk through the nodes of a YES certificate, with a stack of the sets that are still to be proved.
 
 ghost use Rattle.std.specs.Prelude.{◌≡◌, ◌∷◌, ◌<◌, ◌^◌, ◌+◌, [], ℕ, All, List, OnOk, length, map, reverse};
 ghost use Rattle.wh_types.specs.Outcome.{IfBecause, MatchOr};

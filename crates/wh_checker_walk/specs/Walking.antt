@@ -1,4 +1,4 @@
--- What a walk through a certificate's items has come to (ours).
+-- The state of a check that gets a certificate item by item, and what it says of all certificates that go on so (ours).
 use Rattle.std.specs.Prelude.{ℕ, ◌≡◌, ◌+◌, List, [], ◌∷◌, ◌++◌, length, map, reverse, Result, Ok, Err}
 use Rattle.wh_terms.specs.Erase.{tm}
 use Rattle.wh_terms.specs.declared.path.Step as taken
@@ -27,7 +27,7 @@ use Rattle.wh_checker_walk.specs.declared.nodes.Nodes.{Nodes}
 use Rattle.wh_checker_walk.specs.declared.steps.Steps.{Steps}
 use Rattle.wh_checker_walk.specs.declared.puts.Puts.{Puts}
 
--- what is said of a certificate of which these items are left
+-- a property of a certificate of which these items are left
 abbrev pub State : Type 1
 State = Cert → List Item → Type 0
 
@@ -70,7 +70,7 @@ IsWhole d ps a c rest = (rest ≡ []) × Accepts d ps c a
 abbrev pub IsBlamed : SystemData → List PairData → CheckFault → State
 IsBlamed d ps f c rest = IsFirstFault with_limits d ps c f
 
--- so is that of a NO certificate
+-- the fault of a NO certificate is the first, whatever comes
 abbrev pub IsRefused : SystemData → NoFault → State
 IsRefused d f c rest = claims.IsFirstFault d c f
 

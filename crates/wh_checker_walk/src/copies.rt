@@ -1,4 +1,4 @@
-//! Copies of steps.
+//! Copies of steps that a walk keeps.
 
 ghost use Rattle.std.specs.Prelude.{◌≡◌, IfOk};
 ghost use Rattle.wh_terms.specs.Places.{IsPath};

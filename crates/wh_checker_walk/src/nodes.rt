@@ -1,4 +1,4 @@
-//! The nodes of a YES certificate.
+//! The nodes of a YES certificate, checked one by one as they are read.
 
 ghost use Rattle.std.specs.Prelude.{◌≡◌, List, ℕ};
 ghost use Rattle.wh_types.specs.Outcome.{MatchOr};
@@ -19,7 +19,7 @@ use wh_poly_meaning::pairs_have_marked_sides;
 use wh_system::System;
 use wh_types::Or;
 
-/// Where the next node of a YES certificate comes.
+/// The state of a check between two nodes: the sets that are still to be proved, the next on top.
 #[derive(Drop)]
 pub struct Nodes {
     // The sets that are still to be proved, the next on top.
@@ -31,7 +31,7 @@ pub struct Nodes {
 }
 
 impl Nodes {
-    /// Before the first node, behind the ranks and the number of pairs.
+    /// The check before the first node, behind the ranks and the number of pairs.
     pub fn new(
         alloc: Global,
         system: &System,
@@ -54,7 +54,7 @@ impl Nodes {
         })
     }
 
-    /// One node more.
+    /// Takes one more node.
     pub fn take(
         &mut self,
         alloc: Global,
@@ -85,7 +85,7 @@ impl Nodes {
         Ok(())
     }
 
-    /// The nodes are all.
+    /// The answer where the nodes are all: the certificate is accepted.
     pub fn accepted(&self, system: &System, pairs: &PairList) -> AcceptedYes
         requires { HasPairs (system_data system.now) (pairs_data pairs.now) }
         ensures { Leads (AtNodes (system_data system.now) (pairs_data pairs.now) self.now) end

@@ -1,4 +1,4 @@
-//! Where a walk through a certificate is, and where an item leads from there.
+//! Where the check of a certificate is between two items, and where the next item leads.
 
 ghost use Rattle.std.specs.Prelude.{◌≡◌, List, ℕ};
 ghost use Rattle.wh_types.specs.Outcome.{MatchOr};
@@ -29,19 +29,19 @@ use wh_types::Or;
 /// What a walk keeps of the items so far. It is moved at each item, so large parts stand behind a box.
 #[derive(Drop)]
 pub enum Place {
-    /// There was none.
+    /// No item was taken.
     Before,
-    /// At the nodes of a YES certificate.
+    /// The walk is at the nodes of a YES certificate.
     Nodes(Box<Nodes>),
-    /// At the steps of a NO certificate.
+    /// The walk is at the steps of a NO certificate.
     Steps(Box<Steps>),
-    /// Behind the place of the instance, at what is put for variables.
+    /// The walk is behind the place of the instance, at the terms that are put for variables.
     Puts(Box<Puts>),
     /// The first fault was found.
     Blamed(CheckFault),
-    /// They were all, and there is no fault.
+    /// The items were all, and there is no fault.
     Whole(Accepted),
-    /// Memory was wanting.
+    /// There was no memory to go on.
     Lost,
 }
 

@@ -1,4 +1,4 @@
-//! What a NO certificate puts for variables.
+//! The terms that a NO certificate puts for variables, checked line by line as they are read.
 
 ghost use Rattle.std.specs.Prelude.{◌≡◌, List, ℕ};
 ghost use Rattle.wh_types.specs.Outcome.{MatchOr};
@@ -18,7 +18,7 @@ use wh_system::System;
 use wh_terms::{Path, SubstEntry};
 use wh_types::Or;
 
-/// Where the next line of what a NO certificate puts for a variable comes.
+/// The state of a check between two lines of terms that are put for variables.
 #[derive(Drop)]
 pub struct Puts {
     // The steps, which are all gone over.
@@ -29,7 +29,7 @@ pub struct Puts {
 }
 
 impl Puts {
-    /// Before the first line, behind all steps and the place of the instance.
+    /// The check before the first line, behind all steps and the place of the instance.
     pub fn new(
         alloc: Global,
         system: &System,
@@ -53,7 +53,7 @@ impl Puts {
         })
     }
 
-    /// One line more.
+    /// Takes one more line.
     pub fn take(&mut self, alloc: Global, system: &System, line: &Put) -> Result<(), Or<NoFault>>
         requires { CanCome (AtPuts (system_data system.now) self.old) (put (said_put line.now)) }
         ensures { MatchOr result
@@ -65,7 +65,7 @@ impl Puts {
         add_put(alloc, system, &steps.names, index, line, &mut self.entries)
     }
 
-    /// The lines are all.
+    /// The answer where the lines are all: the certificate is accepted, or the instance is not there.
     pub fn accepted(&self, alloc: Global, system: &System) -> Result<AcceptedNo, Or<NoFault>>
         requires { CanCome (AtPuts (system_data system.now) self.now) end }
         ensures { (ps : List PairData) → MatchOr result

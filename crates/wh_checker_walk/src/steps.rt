@@ -1,4 +1,4 @@
-//! The steps of a NO certificate.
+//! The steps of a NO certificate, checked as they are read.
 
 ghost use Rattle.std.specs.Prelude.{◌≡◌, ◌<◌, ◌+◌, ◌^◌, [], List, ℕ, length};
 ghost use Rattle.wh_types.specs.Outcome.{MatchOr};
@@ -17,26 +17,26 @@ use wh_terms::{Step, Term, copy_term};
 use wh_text::RawTerm;
 use wh_types::Or;
 
-// So many steps are gone over at once: each time the term is copied.
+// How many steps may wait before they are replayed together: each replay copies the term.
 const MOST_WAITING: usize = 65_536;
 
-/// Where the next step of a NO certificate comes.
+/// The state of a check between two steps.
 #[derive(Drop)]
 pub struct Steps {
     /// The names of the system.
     pub names: NameTables,
     /// The term of the certificate.
     pub term: Term,
-    /// Where the steps lead that were gone over.
+    /// The term that the replayed steps lead to.
     pub last: Term,
-    /// The number of these.
+    /// The number of replayed steps.
     pub taken: u32,
     // The steps behind them.
     waiting: Vec<Step>,
 }
 
 impl Steps {
-    /// Before the first step.
+    /// The check before the first step.
     pub fn new(alloc: Global, system: &System, raw: &RawTerm) -> Result<Steps, Or<NoFault>>
         ensures { MatchOr result
             (λ new. Leads HasNothing (no_head (rtm raw.now)) (AtSteps (system_data system.now) new))
@@ -54,7 +54,7 @@ impl Steps {
         })
     }
 
-    /// One step more.
+    /// Takes one more step.
     pub fn take(&mut self, alloc: Global, system: &System, next: Step) -> Result<(), Or<NoFault>>
         requires { CanCome (AtSteps (system_data system.now) self.old) (step next) }
         ensures { MatchOr result
@@ -68,7 +68,7 @@ impl Steps {
         self.go_over(alloc, system)
     }
 
-    /// Goes over the steps that wait.
+    /// Replays the steps that wait.
     pub fn go_over(&mut self, alloc: Global, system: &System) -> Result<(), Or<NoFault>>
         requires { CanStand (AtSteps (system_data system.now) self.old) }
         ensures { MatchOr result

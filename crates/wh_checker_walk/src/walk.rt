@@ -1,4 +1,4 @@
-//! A certificate checked by its items.
+//! The check of a certificate item by item, as a reader hands the items out. It keeps only what later items need.
 
 ghost use Rattle.std.specs.Prelude.{◌≡◌, ◌∷◌, ◌++◌, [], List, IfOk, OnOk};
 ghost use Rattle.wh_system.specs.SystemView.{system_data};
@@ -33,7 +33,7 @@ pub struct Walk {
 }
 
 impl Walk {
-    /// Before the first item.
+    /// The check before the first item.
     pub fn new(alloc: Global) -> Walk
         ensures { (d : SystemData) (ps : List PairData) → StandsFor d ps result [] }
     {
@@ -43,8 +43,8 @@ impl Walk {
         }
     }
 
-    /// Takes the next item of a certificate. System and pairs are the same at each call. Without memory the walk is at
-    /// its end, and stands for nothing.
+    /// Takes the next item of a certificate. System and pairs have to be the same at each call. Where memory is wanting
+    /// the walk is at its end, and stands for nothing.
     pub fn push(&mut self, system: &System, pairs: &PairList, item: &Item) -> Result<(), AllocError>
         requires pairs { HasPairs (system_data system.now) (pairs_data pairs.now) }
         requires next { IsNext (system_data system.now) (pairs_data pairs.now) self.old (said_item item.now) }

@@ -30,12 +30,12 @@ pub record Means (gates : List Gate) (a : Literal) (stated : (ℕ → Bool) → 
   pub own : IsWire gates a
   pub is : (v : ℕ → Bool) → Agrees gates v → literal_true v a ≡ stated v
 
--- so do wires as the bits of a number
+-- wires of the circuit write, as the bits of a number, what is stated of the values
 pub record MeansNumber (gates : List Gate) (of : List Literal) (stated : (ℕ → Bool) → ℕ) : Type 0 where
   pub own : AreWires gates of
   pub is : (v : ℕ → Bool) → Agrees gates v → number_of v of ≡ stated v
 
--- so many gates at most have joined, none of them an input
+-- at most n gates have joined, none of them an input
 pub record Extends (n : ℕ) (before after : List Gate) : Type 0 where
   pub kept : take (length before) after ≡ before
   pub more : length before ≤ length after

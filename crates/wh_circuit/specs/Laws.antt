@@ -1,4 +1,4 @@
--- What the gates make of the values of inputs.
+-- Values of gates that the values of inputs determine, and models of a circuit's formula.
 use Rattle.std.specs.Prelude.{◌≡◌, ℕ, ◌<◌, Bool, true, List, Some, length, slice_get}
 use Rattle.wh_sat_trail.specs.declared.literal.Literal.{Literal}
 use Rattle.wh_sat.specs.Solving.{Solves}

@@ -1,4 +1,4 @@
--- Where a circuit stood before it grew.
+-- Marks of a circuit: where it stood before it grew.
 use Rattle.std.specs.Prelude.{◌≡◌, ℕ, length}
 use Rattle.wh_circuit.specs.declared.circuit.Circuit.{Circuit}
 use Rattle.wh_circuit.specs.declared.circuit.mark.Mark.{Mark}

@@ -1,4 +1,4 @@
--- What others see of a circuit, and how it changes.
+-- The state of a circuit as its callers see it: its gates, its clauses and what is required; and how it grows.
 use Rattle.std.specs.Prelude.{◌≡◌, ℕ, List, length, take}
 use Rattle.wh_sat_trail.specs.declared.literal.Literal.{Literal}
 use Rattle.wh_sat_trail.specs.declared.formula.Formula.{Formula}
@@ -15,7 +15,7 @@ required_of circuit = circuit.required.items
 abbrev pub formula_of : Circuit → Formula
 formula_of circuit = circuit.formula
 
--- so many gates at most have joined, and clauses; what is required stays
+-- at most n gates have joined, and clauses with them; what is required stays
 pub record Grows (n : ℕ) (before after : Circuit) : Type 0 where
   pub gates : Extends n (gates_of before) (gates_of after)
   pub clauses : take (length (formula_of before).clauses) (formula_of after).clauses ≡ (formula_of before).clauses

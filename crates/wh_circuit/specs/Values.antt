@@ -1,4 +1,4 @@
--- What lists of wires say under values of all variables.
+-- Lists of wires under values of all variables: how many are true, and which number they write.
 use Rattle.std.specs.Prelude.{ℕ, ◌+◌, ◌*◌, ◌&&◌, Bool, true, false, List, [], ◌∷◌}
 use Rattle.wh_sat_trail.specs.declared.literal.Literal.{Literal}
 use Rattle.wh_sat.specs.Solving.{literal_true}

@@ -24,7 +24,7 @@ use wh_sat_trail::{Clause, Formula};
 pub struct Gate {
     /// Whether it is an input.
     pub is_input: bool,
-    /// The wires.
+    /// The wires: a gate that is no input is true exactly where all of them are.
     pub of: Clause,
 }
 

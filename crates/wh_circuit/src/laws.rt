@@ -1,4 +1,4 @@
-//! Laws of circuits.
+//! Laws of circuits: the inputs determine the values of all gates, and such values exist.
 
 ghost use Rattle.wh_circuit.specs.Laws.{ValuesAreUnique, ValuesExist};
 

@@ -1,4 +1,4 @@
--- What a gate is, in clauses.
+-- The clauses that say what a gate is: its variable is true exactly where all of its wires are.
 use Rattle.std.specs.Prelude.{ℕ, true, false, List, [], ◌∷◌, ◌++◌, map}
 use Rattle.wh_sat_trail.specs.declared.literal.Literal.{Literal}
 use Rattle.wh_sat_trail.specs.Assignment.{negated}

@@ -1,4 +1,4 @@
-//! What a gate is, in clauses, and lists of wires.
+//! Gates of a circuit as clauses, and lists of wires.
 #![tactic(auto)]
 
 mod pieces;

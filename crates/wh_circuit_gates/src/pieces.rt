@@ -1,4 +1,4 @@
-//! The clauses of a gate, and negations.
+//! The clauses that say what a gate is, and negations of wires.
 
 ghost use Rattle.std.specs.Prelude.{◌≡◌, IfOk, [], ◌∷◌, drop, map};
 ghost use Rattle.wh_circuit_gates.specs.Clauses.{gate_clauses, no, shorts, yes};

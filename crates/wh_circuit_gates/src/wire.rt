@@ -1,4 +1,4 @@
-//! Wires.
+//! Wires of a circuit: literals of its formula.
 
 use wh_sat_trail::Literal;
 use wh_types::List;

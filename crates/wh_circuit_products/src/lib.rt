@@ -1,4 +1,4 @@
-//! Products, by gates that join a circuit.
+//! Products of numbers whose bits are wires, by gates that join a circuit.
 #![tactic(auto)]
 
 mod multiplying;

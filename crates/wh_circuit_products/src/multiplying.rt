@@ -1,4 +1,4 @@
-//! Products, as sums of rows.
+//! Products of numbers whose bits are wires, as sums of rows. `times` is the main function.
 
 ghost use Rattle.std.specs.Prelude.{◌≡◌, ℕ, ◌+◌, ◌*◌, ◌<◌, ◌≤◌, ◌^◌, Bool, IfOk, OnErr, OnOk, length};
 ghost use Rattle.wh_circuit.specs.Gates.{AreWires, IsWire, MeansNumber};
@@ -37,8 +37,8 @@ pub fn times(
     }
 }
 
-// The same, but for what is left without memory. After each row the lowest bits of the product are made, and `rest` is
-// what the rows so far leave for the higher ones.
+// The bits of the product, as for `times`; where memory is wanting, gates may be left that `times` takes back. After
+// each row the lowest bits of the product are made, and `rest` is what the rows so far leave for the higher ones.
 fn multiplied(
     alloc: Global,
     circuit: &mut Circuit,

@@ -1,4 +1,4 @@
--- What one step of a count and of a sum makes.
+-- Single steps of a count of wires and of a sum of numbers.
 use Rattle.std.specs.Prelude.{◌≡◌, ℕ, ◌+◌, ◌*◌, Bool, List, nat_lt}
 use Rattle.wh_sat_trail.specs.declared.literal.Literal.{Literal}
 use Rattle.wh_sat.specs.Solving.{literal_true}

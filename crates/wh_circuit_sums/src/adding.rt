@@ -1,4 +1,4 @@
-//! Sums, bit by bit with a carry.
+//! Sums of numbers whose bits are wires, bit by bit with a carry.
 
 ghost use Rattle.std.specs.Prelude.{◌≡◌, ℕ, ◌+◌, ◌*◌, ◌<◌, ◌≤◌, ◌^◌, ◌&&◌, ◌||◌, Bool, IfOk, OnErr, OnOk, get_or, length, max, not};
 ghost use Rattle.wh_circuit.specs.Gates.{AreWires, IsWire, Means, MeansNumber};
@@ -39,7 +39,7 @@ pub fn sum(
     }
 }
 
-/// The sum of two numbers that are no wider than stated, but for what is left without memory.
+/// The sum of two numbers of at most `width` bits. Where memory is wanting, gates may be left that `sum` takes back.
 pub fn added(
     alloc: Global,
     circuit: &mut Circuit,

@@ -1,4 +1,4 @@
-//! Counts up to two.
+//! Counts up to two, by two wires.
 
 use wh_circuit_gates::Wire;
 

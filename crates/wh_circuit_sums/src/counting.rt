@@ -1,4 +1,4 @@
-//! How many wires are true.
+//! Counting true wires: `exactly_one` makes the wire that says that one alone is.
 
 ghost use Rattle.std.specs.Prelude.{◌≡◌, ℕ, ◌+◌, ◌*◌, ◌<◌, ◌^◌, Bool, IfOk, OnErr, OnOk, length, nat_eq};
 ghost use Rattle.wh_circuit.specs.Gates.{AreWires, IsWire, Means};
@@ -31,7 +31,8 @@ pub fn exactly_one(circuit: &mut Circuit, of: &[Wire]) -> Result<Wire, AllocErro
     }
 }
 
-// The same, but for what is left without memory.
+// Compares the number of true wires with 1 as `exactly_one` does. Where memory is wanting, gates may be left that
+// `exactly_one` takes back.
 fn one_of(circuit: &mut Circuit, of: &[Wire]) -> Result<Wire, AllocError>
     requires room { length (gates_of circuit.old) + (3 * length of.now + 2) < 2 ^ 31 }
     requires own { AreWires (gates_of circuit.old) of.now }

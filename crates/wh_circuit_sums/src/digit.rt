@@ -1,4 +1,4 @@
-//! Sums of three bits.
+//! Digits: the two bits that the sum of three bits has.
 
 use wh_circuit_gates::Wire;
 

@@ -19,7 +19,7 @@ use std::rt::{Env, Files};
 use wh_io::{FileShelf, Shelf, StdSink, read_whole, write_all_of};
 use wh_types::Bytes;
 
-/// What is done with a file.
+/// The task that a file is given for.
 #[derive(Clone, Copy)]
 enum Task {
     Answers,

@@ -18,19 +18,19 @@ use Rattle.wh_top_judging.specs.Outcomes.{BeginsWith, Judged, Shelves, Stands, S
 abbrev pub Says : Report → List ℕ → Type 0
 Says o text = BeginsWith (first_words (verdict_of o)) text
 
--- it begins with the words for what the check answers on the certificate
+-- the text begins with the words for what the check answers on the certificate
 abbrev pub SaysOf : SystemData → List PairData → Cert → List ℕ → Type 0
 SaysOf d ps c text = (o : Report) × Weighed d ps c o × Says o text
 
--- the same of the bytes that are to be the certificate's
+-- the text begins with the words for what the check answers on these bytes as a certificate
 abbrev pub SaysOfBytes : SystemData → List PairData → List ℕ → List ℕ → Type 0
 SaysOfBytes d ps bytes text = (o : Report) × Judged d ps bytes o × Says o text
 
--- the same of the two files
+-- the text begins with the words for what the check answers on the two files
 abbrev pub SaysOfFiles : Shelves → List ℕ → List ℕ → List ℕ → Type 0
 SaysOfFiles s file cert text = (o : Report) × Stands s file cert o × Says o text
 
--- it says that no certificate was found, or what the check answers on some certificate
+-- the text says that no certificate was found, or what the check answers on some certificate
 abbrev pub Finds : SystemData → List PairData → List ℕ → Type 0
 Finds d ps text = BeginsWith (first_words Open) text ⊎ ((c : Cert) × IsCert c × SaysOf d ps c text)
 

@@ -1,4 +1,4 @@
-//! Why a search gave up: what is left, and what stops each way that was tried.
+//! Why a search gave up: the pairs that are left, and what stops each way that was tried.
 
 ghost use Rattle.std.specs.Prelude.{◌≤◌};
 ghost use Rattle.wh_system.specs.SystemView.{system_data};

@@ -123,7 +123,7 @@ pub fn graph_file<S: Shelf>(alloc: Global, shelf: &mut S, file: &str) -> Result<
     Ok(text.into_bytes()?)
 }
 
-// What a search for a certificate comes to. What it finds is checked like a certificate from elsewhere.
+// Searches for a certificate and explains what it finds, which is checked like a certificate from elsewhere.
 fn searched(alloc: Global, problem: &Problem) -> Result<Bytes, AllocError>
     requires { HasPairs (system_data problem.now.system) (pairs_data problem.now.pairs) }
     ensures finds { IfOk result (Finds (system_data problem.now.system) (pairs_data problem.now.pairs)) }
@@ -266,7 +266,7 @@ fn put_last(alloc: Global, text: &mut Text, system: &System) -> Result<(), Alloc
     put_lints(alloc, text, system)
 }
 
-// Both, one behind the other.
+// The two texts, one behind the other.
 fn joined(alloc: Global, first: &[u8], second: &[u8]) -> Result<Bytes, AllocError>
     ensures { IfOk result (λ text. text ≡ first.now ++ second.now) }
 {

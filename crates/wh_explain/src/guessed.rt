@@ -46,7 +46,7 @@ pub fn put_best_guess(
     put_climbed(alloc, text, &task, &marked)
 }
 
-// The same for a task, with the marked symbols of the set.
+// Appends the best guess for a task, with the marked symbols of its set.
 fn put_climbed<'a>(
     alloc: Global,
     text: &mut Text,

@@ -1,4 +1,4 @@
-//! Verdicts, and their words.
+//! Verdicts: what an explanation says of a certificate, and the words that it begins with.
 
 ghost use Rattle.std.specs.Prelude.{◌≡◌};
 ghost use Rattle.wh_explain_verdict.specs.FirstWords.{first_words, verdict_of};
@@ -8,9 +8,9 @@ use wh_answer::Report;
 /// What an explanation says of a certificate, or of a search for one.
 #[derive(Clone, Copy)]
 pub enum Verdict {
-    /// The check accepts it: every well-typed term is bounded.
+    /// The check accepts the certificate: every well-typed term is bounded.
     Proof,
-    /// The check accepts it: some term has reductions of every length.
+    /// The check accepts the certificate: some term has reductions of every length.
     Loop,
     /// The text is no certificate, or a condition does not hold.
     Rejected,

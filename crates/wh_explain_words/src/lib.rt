@@ -1,4 +1,4 @@
-//! What the words of the program that explains ask for.
+//! The words of the program `wanda_explain`, and the requests that they make.
 #![tactic(auto)]
 
 mod request;

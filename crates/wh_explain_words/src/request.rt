@@ -1,33 +1,33 @@
-//! What the words of the program ask for.
+//! The requests that the words of `wanda_explain` make.
 
 ghost use Rattle.std.specs.Prelude.{◌≡◌, ◌↔◌, ◌⊎◌, ◌∷◌, [], ℕ, List, All, IsTrue, MatchOption, length, map, string_bytes};
 ghost use Rattle.wh_explain_words.specs.Asked.{Asked, Asks, IsName, Name, asked_by};
 
-/// What is asked for.
+/// What the words ask for.
 #[derive(Clone, Copy)]
 pub enum Request<'a> {
-    /// To explain the system in the file, by the certificate in the other one or by a search.
+    /// Explain the system in the file, by the certificate in the other file or by a search.
     Explain {
         /// The name of the system file.
         file: &'a str,
         /// The name of the certificate file, if there is one.
         cert: Option<&'a str>,
     },
-    /// To say what is likely not meant in the system in the file.
+    /// Say what is likely not meant in the system in the file.
     Lint {
         /// The name of the system file.
         file: &'a str,
     },
-    /// To draw the dependency graph of the system in the file.
+    /// Draw the dependency graph of the system in the file.
     Graph {
         /// The name of the system file.
         file: &'a str,
     },
 }
 
-/// What the words behind the program's own name ask for; `None` exactly where they are none of `FILE`, `FILE CERT`,
-/// `--lint FILE` and `--graph FILE`. A word of several bytes that begins with `-` names a file only behind a word `--`,
-/// and an empty one does, too.
+/// The request that the words behind the program's own name make; `None` exactly where they are not `FILE`, `FILE
+/// CERT`, `--lint FILE` or `--graph FILE`. A word of several bytes that begins with `-` names a file only behind a word
+/// `--`, and so does an empty word.
 pub fn read_request(words: &[String]) -> Option<Request<'_>>
     ensures { MatchOption result ((asked : Asked) → Asks (map string_bytes words.now) asked → ⊥)
         (λ request. Asks (map string_bytes words.now) (asked_by request)) }

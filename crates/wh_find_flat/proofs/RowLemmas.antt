@@ -14,7 +14,7 @@ two_true v a b = go (literal_true v a) (literal_true v b)
     go false true = refl
     go false false = refl
 
--- of a number that fits so many bits the lowest ones are all
+-- a number below 2^m is written by its m lowest bits
 pub number_take : (v : ℕ → Bool) (m : ℕ) (ls : List Literal) → number_of v ls < 2 ^ m → number_of v (take m ls) ≡ number_of v ls
 number_take v zero ls h = let e : number_of v ls ≡ 0 = omega (arith, h) in sym e
 number_take v (suc m) [] h = refl

@@ -65,7 +65,7 @@ standing_few z (bound i) p = absurd p
 standing_few z (free x a) p = absurd p
 standing_few z (lam a t) p = absurd p
 
--- so many times a number is at most sixty times it
+-- at most sixty times a number is at most sixty times it
 pub at_most_sixty : (k c : ℕ) → k ≤ 60 → k * c ≤ 60 * c
 at_most_sixty k c h = mul-le-mul h (le_self c)
   where

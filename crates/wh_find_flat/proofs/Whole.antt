@@ -183,7 +183,7 @@ many_occurrences T listed_within ready within =
     omega (arith, e))) in
     omega (arith, a, b)
 
--- so many variables there are at most
+-- the circuit has at most `most_variables` variables
 pub fits_variables : (covered : List ℕ) (n all : ℕ) → (1 ≤ length covered → n ≤ 200000 * all) → n ≤ 200000 * (all + 2) → n ≤ most_variables covered all
 fits_variables [] n all some any = any
 fits_variables (m ∷ covered) n all some any = some (omega arith)

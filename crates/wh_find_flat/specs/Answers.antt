@@ -1,4 +1,4 @@
--- What the search by a circuit ends with.
+-- The answers of the search for interpretations of a flat set by a circuit.
 use Rattle.std.specs.Prelude.{ℕ, ◌+◌, ◌*◌, ◌≤◌, ◌≡◌, Bool, Option, Some, None, List, [], ◌∷◌, length}
 use Rattle.wh_system.specs.Systems.{SystemData}
 use Rattle.wh_pairs.specs.PairData.{PairData}
@@ -21,8 +21,8 @@ use Rattle.wh_poly_guesses.specs.Found.{IsInterpretationOver}
 use Rattle.wh_poly_blocking.specs.Tried.{AreWritten}
 use Rattle.wh_poly_flat.specs.Flat.{all_occurrences}
 
--- so many variables there are at most: 200,000 for each occurrence, and where no rules are to be covered 400,000 more,
--- as all symbols have coefficients
+-- the greatest number of variables of the formula, where there are n occurrences: 200,000 for each occurrence, and
+-- 400,000 more where no rules are to be covered, as all symbols have coefficients
 abbrev pub most_variables : List ℕ → ℕ → ℕ
 most_variables [] n = 200000 * (n + 2)
 most_variables (m ∷ covered) n = 200000 * n
@@ -34,7 +34,7 @@ pub record IsFlatFormula (T : TaskData) (marked : List ℕ) (variables : ℕ) (c
   pub within : Within variables clauses
   -- what a model writes lets a pair go
   pub models : (v : ℕ → Bool) → Solves v clauses → (R : ReadingsData) → AreWritten T marked v R → LetsGo T R
-  -- and what lets a pair go is written by a model
+  -- each interpretation of the space that lets a pair go is written by a model
   pub all : (R : ReadingsData) → AreOfSpace T R → LetsGo T R → (v : ℕ → Bool) × Solves v clauses × AreWritten T marked v R
 
 -- as many clauses as the budget, each of which can be learnt from such a formula and those before it (ours)

@@ -17,7 +17,7 @@ use Rattle.wh_find_flat.specs.declared.value.Value.{Value}
 abbrev pub Later : List Gate → List Gate → Type 0
 Later before after = (n : ℕ) × Extends n before after
 
--- so it is of a circuit, and at most so many gates have joined; what is required stays
+-- at most `many` gates have joined a circuit, none of them an input; what is required stays
 pub record Builds (many : ℕ) (before after : Circuit) : Type 0 where
   pub gates : Later (gates_of before) (gates_of after)
   pub few : length (gates_of after) ≤ length (gates_of before) + many

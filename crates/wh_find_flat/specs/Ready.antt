@@ -16,12 +16,12 @@ use Rattle.wh_find_flat.specs.Lists.{lists_for}
 use Rattle.wh_find_flat.specs.Plain.{ArePlainSides, stands_in}
 use Rattle.wh_find_flat.specs.Numbers.{AreInputs}
 
--- two sides over so many meta-variables
+-- two sides over `metas` meta-variables
 pub record AreReady (metas : ℕ) (left right : Tm) : Type 0 where
   pub plain : ArePlainSides left right
   pub bounded : (z : ℕ) → stands_in z right ≡ true → z < metas
 
--- those of a rule
+-- the two sides of a rule
 abbrev pub IsReadyRule : RewriteRule → Type 0
 IsReadyRule r = AreReady (length r.metas) r.left r.right
 
@@ -35,7 +35,7 @@ left_of first marked p = call_of first marked p.left_fun p.left
 abbrev pub right_of : ℕ → List ℕ → PairData → Tm
 right_of first marked p = call_of first marked p.right_fun p.right
 
--- those of a pair
+-- the two sides of a pair
 abbrev pub IsReadyPair : ℕ → List ℕ → PairData → Type 0
 IsReadyPair first marked p = AreReady (length p.metas) (left_of first marked p) (right_of first marked p)
 
@@ -44,7 +44,7 @@ abbrev pub RuleHolds : List ℕ → List RewriteRule → List ℕ → (ℕ → B
 RuleHolds sizes rules listed v k =
     (n : ℕ) (r : RewriteRule) → slice_get listed k ≡ Some n → slice_get rules n ≡ Some r → IsAtLeast (lists_for sizes v) r.left r.right
 
--- so it is of the pair at this place of the set
+-- the left side of the pair at this place of the set is at least its right side
 abbrev pub PairHolds : List ℕ → ℕ → List ℕ → List PairData → List ℕ → (ℕ → Bool) → ℕ → Type 0
 PairHolds sizes first marked pairs set v k =
     (n : ℕ) (p : PairData) → slice_get set k ≡ Some n → slice_get pairs n ≡ Some p

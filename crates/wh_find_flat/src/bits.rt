@@ -1,4 +1,4 @@
-//! The bits of coefficients, two for each.
+//! The bits of coefficients, two for each: which bit a coefficient has first.
 
 ghost use Rattle.std.specs.Prelude.{◌≡◌, ◌+◌, ◌≤◌, ◌<◌, ◌^◌, ℕ, get_or, length};
 ghost use Rattle.wh_poly_blocking.specs.Sizes.{bits_in, first_of};
@@ -7,9 +7,9 @@ ghost use Rattle.wh_poly_blocking.specs.Sizes.{bits_in, first_of};
 /// comes first.
 #[derive(Drop)]
 pub struct Bits {
-    /// How many there are of each.
+    /// How many coefficients each symbol has.
     pub sizes: Vec<usize>,
-    /// The first bit of each, and behind all how many bits there are.
+    /// The first bit of each symbol, and behind all how many bits there are.
     pub firsts: Vec<u32>,
     ghost count: { length firsts.items ≡ length sizes.items + 1 },
     ghost each: { (n : ℕ) → n ≤ length sizes.items → get_or firsts.items n 0 ≡ first_of sizes.items n },
@@ -28,7 +28,7 @@ impl Bits {
         self.firsts[self.sizes.len()] as usize
     }
 
-    /// The first of the two bits of a coefficient, if there is such a one.
+    /// The first of the two bits of a coefficient, if that coefficient is there.
     pub fn of_coefficient(&self, number: usize, place: usize) -> Option<u32>
         ensures { MatchOption result (IsAbsent self.now.sizes.items number place) (IsWrittenAt self.now.sizes.items number place) }
     {

@@ -1,4 +1,4 @@
-//! Numbers that are compared.
+//! Comparing numbers of two sides, as gates or as what is required.
 
 ghost use Rattle.std.specs.Prelude.{◌≡◌, ℕ, ◌+◌, ◌<◌, ◌≤◌, ◌^◌, Bool, IfOk, OnOk, false, length, max, nat_lt, not};
 ghost use Rattle.wh_circuit.specs.Gates.{AreWires, Means};
@@ -32,7 +32,7 @@ pub fn at_least(
     circuit.at_least(&left, &right)
 }
 
-// The number with a wire that is false for higher bits, up to so many.
+// The number with higher bits up to the width, each by a wire that is false.
 fn padded(alloc: Global, number: &[Wire], zero: Wire, width: usize) -> Result<Vec<Wire>, AllocError>
     requires { length number.now ≤ width }
     ensures width { IfOk result (λ made. length made.items ≡ width) }

@@ -1,4 +1,4 @@
-//! The search for interpretations of a flat set.
+//! The search for interpretations of a flat set by one formula. `find_by_circuit` is the main function.
 
 ghost use Rattle.std.specs.Prelude.{◌≡◌, ◌↔◌, ◌≤◌, ◌<◌, All, IfOk, IsTrue, length, map};
 ghost use Rattle.wh_types.specs.Limits.{most_pairs};
@@ -104,7 +104,7 @@ fn rules_of(
     }
 }
 
-// The same numbers.
+// A copy of the numbers.
 fn copied(alloc: Global, numbers: &[u32]) -> Result<Vec<u32>, AllocError>
     ensures { IfOk result (λ made. made.items ≡ numbers.now) }
 {
@@ -116,7 +116,7 @@ const MOST_MARKED: usize = 1024;
 
 const MOST_BITS: usize = 659_456;
 
-// The same with the marked symbols of the set.
+// Searches for the task with the marked symbols of its set.
 fn find_for<'a>(
     alloc: Global,
     task: &Task<'a>,

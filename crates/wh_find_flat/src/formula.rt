@@ -1,4 +1,4 @@
-//! The circuit of a flat set.
+//! The circuit of a flat set, with what is required of it. `circuit_of` is the main function.
 
 ghost use Rattle.std.specs.Prelude.{◌≡◌, ℕ, ◌+◌, ◌*◌, ◌<◌, ◌≤◌, ◌^◌, [], All, IfOk, OnOk, length, map, nat_lt, sum_by};
 ghost use Rattle.wh_terms.specs.Erase.{rewrite_rules};
@@ -25,7 +25,7 @@ use wh_pairs::{Pair, call};
 use wh_reduction_pairs::Task;
 use wh_terms::Rule;
 
-// So many inputs.
+// A circuit of `count` inputs.
 fn inputs(alloc: Global, count: usize) -> Result<Circuit, AllocError>
     requires { count < 2 ^ 31 }
     ensures inputs { IfOk result (λ made. AreInputs count (gates_of made)) }
@@ -39,7 +39,7 @@ fn inputs(alloc: Global, count: usize) -> Result<Circuit, AllocError>
     Ok(circuit)
 }
 
-// The place of a symbol among the marked ones, or their number where it is none of them.
+// The place of a symbol among the marked ones, or the number of these where it is no marked one.
 fn place(marked: &[u32], symbol: u32) -> usize
     ensures { result ≡ place_among marked.now symbol }
 {
@@ -85,7 +85,8 @@ struct Calls<'a> {
     first: u32,
 }
 
-// So it is of each pair of the set; the wires are true exactly where the constant on the left is greater.
+// Requires of each pair of the set that its left side is at least its right one. The wires, one for each pair, are true
+// exactly where the constant on the left is greater.
 fn require_pairs<'a>(
     alloc: Global,
     circuit: &mut Circuit,
@@ -115,7 +116,8 @@ fn require_pairs<'a>(
     Ok(greater)
 }
 
-// The same of a pair.
+// Requires of a pair that its left side is at least its right one. The wire is true exactly where the constant on the
+// left is greater.
 fn require_call<'a>(
     alloc: Global,
     circuit: &mut Circuit,

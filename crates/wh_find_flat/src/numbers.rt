@@ -1,4 +1,4 @@
-//! The numbers of terms, made of gates.
+//! The numbers that a flat term comes to, made of gates over the bits of coefficients. `number` is the main function.
 
 ghost use Rattle.std.specs.Prelude.{ℕ, ◌+◌, ◌*◌, ◌-◌, ◌<◌, ◌≤◌, ◌^◌, IfOk, List, OnOk, length};
 ghost use Rattle.wh_terms.specs.Erase.{tm};
@@ -49,7 +49,7 @@ pub fn number(
     }
 }
 
-// That of a symbol alone.
+// The number of a symbol alone.
 fn symbol_value(
     alloc: Global,
     circuit: &Circuit,
@@ -92,7 +92,7 @@ fn constant_wires(
     Ok(wires)
 }
 
-// That of a meta-variable: its own factor is 1.
+// The number of a meta-variable: its own factor is 1.
 fn meta_value(
     alloc: Global,
     circuit: &mut Circuit,
@@ -115,7 +115,7 @@ fn meta_value(
     })
 }
 
-// That of a term applied to one more argument.
+// The number of a term applied to one more argument.
 fn applied(
     alloc: Global,
     circuit: &mut Circuit,

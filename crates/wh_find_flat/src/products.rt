@@ -1,4 +1,4 @@
-//! Sums of products with coefficients.
+//! Sums of products with coefficients of two bits.
 
 ghost use Rattle.std.specs.Prelude.{◌≡◌, ℕ, ◌+◌, ◌<◌, ◌≤◌, ◌^◌, IfOk, OnOk, Some, length, take, true};
 ghost use Rattle.wh_circuit.specs.Gates.{AreWires};
@@ -10,8 +10,8 @@ use crate::rows::{doubled, with_row};
 use std::alloc::{AllocError, Global};
 use wh_circuit::{Circuit, Wire};
 
-/// The sum of a number and the product of another one with a coefficient, of which the first bit is given; one that is
-/// missing is 0. Of the sum only the lowest bits are kept, so many as are stated.
+/// The sum of a number and the product of another one with a coefficient. The first bit of the coefficient is given; a
+/// coefficient that is missing is 0. Of the sum only the lowest `width` bits are kept.
 pub fn with_product(
     alloc: Global,
     circuit: &mut Circuit,

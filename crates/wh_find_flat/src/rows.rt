@@ -1,4 +1,4 @@
-//! Sums of products with a single bit.
+//! Rows of products: sums in which a single bit says whether a number is added.
 
 ghost use Rattle.std.specs.Prelude.{◌≡◌, ◌+◌, ◌*◌, ◌<◌, ◌≤◌, ◌^◌, IfOk, OnOk, length, max};
 ghost use Rattle.wh_circuit.specs.Gates.{AreWires, IsWire, MeansNumber};

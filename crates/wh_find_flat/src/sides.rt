@@ -21,8 +21,8 @@ use std::alloc::{AllocError, Global};
 use wh_circuit::{Circuit, Wire};
 use wh_terms::Term;
 
-/// The left side of a rule has to be at least the right one; all meta-variables have numbers below the one that is
-/// given. At most 147,254 variables join for each symbol and meta-variable in the sides.
+/// Requires of a rule that its left side is at least the right one; all meta-variables have numbers below `metas`. At
+/// most 147,254 variables join for each symbol and meta-variable in the sides.
 pub fn require_rule(
     alloc: Global,
     circuit: &mut Circuit,
@@ -44,7 +44,8 @@ pub fn require_rule(
     require_factors(alloc, circuit, bits, metas, left, right)
 }
 
-/// The same of a pair; the wire is true exactly where the constant of the left side is greater.
+/// Requires of a pair that its left side is at least the right one; the wire is true exactly where the constant of the
+/// left side is greater.
 pub fn require_pair(
     alloc: Global,
     circuit: &mut Circuit,
@@ -92,7 +93,7 @@ fn require_part(
     require_at_least(alloc, circuit, &first.wires, &second.wires)
 }
 
-// So it is of the constants; the wire is true exactly where the left one is greater.
+// Requires of two constants that the left one is at least the right one; the wire is true exactly where it is greater.
 fn require_constants(
     alloc: Global,
     circuit: &mut Circuit,

@@ -1,4 +1,4 @@
-//! Which meta-variables stand in a term.
+//! Whether a meta-variable stands in a term.
 
 ghost use Rattle.std.specs.Prelude.{◌≡◌};
 ghost use Rattle.wh_terms.specs.Erase.{tm};

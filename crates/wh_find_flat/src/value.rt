@@ -1,4 +1,4 @@
-//! What gates tell of a tree.
+//! Values: a number of a tree as wires, with what is known of the tree.
 
 use wh_circuit::Wire;
 

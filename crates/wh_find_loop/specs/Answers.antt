@@ -1,4 +1,4 @@
--- What the search for loops answers.
+-- The answers of the search for loops.
 use Rattle.std.specs.Prelude.{ℕ, ◌≡◌, ◌≢◌, ◌<◌, List, length, map, All, AllPairs}
 use Rattle.wh_terms.specs.Rules.{RewriteRule}
 use Rattle.wh_system.specs.Systems.{SystemData}
@@ -9,7 +9,7 @@ use Rattle.wh_find_loop.specs.declared.answer.LoopSearch.{LoopSearch}
 use Rattle.wh_find_loop.specs.declared.answer.LoopSearch.TheVariants.{Found, Nothing, Full}
 use Rattle.wh_loop_reached.specs.Arrivals.{Arrival, arrival, HoldsNoInstance}
 
--- the term of the arrival is reached in at most so many steps
+-- the term of the arrival is reached in at most `depth` steps
 abbrev pub IsReached : List RewriteRule → ℕ → Arrival → Type 0
 IsReached rules depth a = Reached rules depth a.start a.term
 
@@ -18,7 +18,7 @@ pub record AreReached (rules : List RewriteRule) (depth : ℕ) (list : List Arri
   pub each : All (IsReached rules depth) list
   pub distinct : AllPairs (λ a b. a ≢ b) list
 
--- so many arrivals are listed; each is a start itself, or holds no instance of its start (ours)
+-- `visited` arrivals are listed; each is a start itself, or holds no instance of its start (ours)
 pub record AreVisited (d : SystemData) (depth visited : ℕ) (list : List Arrival) : Type 0 where
   pub count : length list ≡ visited
   pub reached : AreReached d.rules depth list

@@ -32,15 +32,15 @@ HasNoInstance d n u = (s : Tm) → IsStart d.rules n s → HoldsInstanceOf d.sym
 abbrev pub IsTried : SystemData → List Entry → ℕ → Tm → taken.Step → Type 0
 IsTried d entries n t s = (u : Tm) → StepAt d.rules s.rule s.path t u → InSpace u → IsListed entries n u × HasNoInstance d n u
 
--- the same of every step from the entry
+-- all that a step leads to from the entry, in the space, is listed, and ends no loop
 abbrev pub IsDone : SystemData → List Entry → Entry → Type 0
 IsDone d entries e = (u : Tm) → Step d.rules (tree e) u → InSpace u → IsListed entries e.visit.start u × HasNoInstance d e.visit.start u
 
--- the same of every step from the first entries, so many
+-- all that a step leads to from the first m entries, in the space, is listed, and ends no loop
 abbrev pub AreDone : SystemData → List Entry → ℕ → Type 0
 AreDone d entries m = (i : ℕ) (e : Entry) → i < m → slice_get entries i ≡ Some e → IsDone d entries e
 
--- all that is reached in at most so many steps is listed
+-- all that is reached in at most `level` steps is listed
 abbrev pub IsComplete : SystemData → ℕ → List Entry → Type 0
 IsComplete d level entries = (n k : ℕ) (t : Tm) → k ≤ level → Path d.rules n k t → IsListed entries n t
 
@@ -83,7 +83,7 @@ pub record TriesOn (d : SystemData) (level at : ℕ) (s : taken.Step) (old new :
   pub one_more : length new.entries.items ≤ length old.entries.items + 1
   pub tried : (e : Entry) → slice_get old.entries.items at ≡ Some e → IsTried d new.entries.items e.visit.start (tree e) s
 
--- the same, or the certificate of a loop
+-- the list goes on and the step is tried, or the certificate of a loop is found
 abbrev pub Tries : SystemData → ℕ → ℕ → taken.Step → Listing → Option (Box NoCertificate) → Listing → Type 0
 Tries d level at s old None new = TriesOn d level at s old new
 Tries d level at s old (Some c) new = IsLoopCertificate d level (said_no c.value)

@@ -1,4 +1,4 @@
-//! What the search for loops answers.
+//! The answers of the search for loops.
 
 use wh_cert::NoCertificate;
 use wh_loop_reached::Visits;
@@ -11,6 +11,6 @@ pub enum LoopSearch {
     /// There is no loop of at most the given number of steps through terms that fit and are small, and fewer such
     /// terms are reached than may be kept.
     Nothing,
-    /// As many terms were reached as may be; each is a start itself, or holds no instance of its start.
+    /// As many terms were reached as may be kept. Each is a start itself, or holds no instance of its start.
     Full(Visits),
 }

@@ -1,4 +1,4 @@
-//! Terms join the list.
+//! Terms that join the list, where they are not listed yet.
 
 ghost use Rattle.std.specs.Prelude.{◌≡◌, ◌<◌, ◌^◌, ℕ, OnOk, length};
 ghost use Rattle.wh_system.specs.Systems.{SystemData};

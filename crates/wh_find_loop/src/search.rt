@@ -1,4 +1,4 @@
-//! The search, level by level.
+//! The search for loops, level by level. `find_loop` is the main function.
 
 ghost use Rattle.std.specs.Prelude.{◌≡◌, ◌<◌, ◌≤◌, ◌^◌, ◌+◌, ℕ, [], IfOk, OnOk, length};
 ghost use Rattle.wh_terms.specs.Erase.{tm};
@@ -27,9 +27,9 @@ use wh_terms::{Step, Term};
 /// How far the search came.
 #[derive(Drop)]
 pub enum Progress {
-    /// All that was to be tried is tried.
+    /// All steps that were to be tried are tried.
     More,
-    /// As many terms are listed as may be.
+    /// As many terms are listed as may be kept.
     Full,
     /// There is a loop.
     Found(Box<NoCertificate>),
@@ -241,7 +241,7 @@ fn list_starts(
     Ok(false)
 }
 
-// Tries all steps of at most so many levels.
+// Tries all steps of at most `depth` levels.
 fn search(
     alloc: Global,
     setting: &Setting<'_>,

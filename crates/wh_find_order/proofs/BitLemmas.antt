@@ -188,7 +188,7 @@ number_end v x k =
     let f : k - 0 ≡ k = omega arith in
     ap₂ (number_from v) e f
 
--- so many bits write numbers below that power of 2
+-- k bits write numbers below 2^k
 pub number_below : (v : ℕ → Bool) (x k : ℕ) → number_from v x k < 2 ^ k
 number_below v x zero = omega arith
 number_below v x (suc k) =

@@ -46,7 +46,7 @@ number_is v x (suc b) p low is =
     ap v f ∙ is (suc y) (omega (arith, below))) in
     ap₂ (λ c n. (if c then 1 else 0) + 2 * n) first rest ∙ halves p
 
--- a number has so many bits
+-- a number fits its binary length
 
 div_two : (n : ℕ) → n < 2 * (n / 2) + 2
 div_two n = omega arith

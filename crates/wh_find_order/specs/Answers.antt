@@ -1,4 +1,4 @@
--- What the search for orders ends with.
+-- The answers of the search for path orders.
 use Rattle.std.specs.Prelude.{ℕ, ◌≡◌, ◌^◌, List, All, Contains, length}
 use Rattle.wh_system.specs.Systems.{SystemData}
 use Rattle.wh_pairs.specs.PairData.{PairData, IsIncreasing}

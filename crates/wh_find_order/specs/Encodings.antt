@@ -50,7 +50,7 @@ scopes_for e = scopes_of (task_in e) e.marked.now
 abbrev pub bits_for : Encoding → ℕ
 bits_for e = precedence_bits (task_in e) e.marked.now
 
--- the tables of the bits and of what is used are right
+-- the tables of the bits and of the symbols in conditions are right
 pub record IsEncoding (e : Encoding) : Type 0 where
   pub task : IsTaskOf e.task
   pub made : IsWellMadeSystem (system_in e)
@@ -62,7 +62,7 @@ pub record IsEncoding (e : Encoding) : Type 0 where
   -- for each symbol its first bit, and at the end how many bits there are
   pub count : length e.first_bits.items ≡ length (scopes_for e) + 1
   pub firsts : (n : ℕ) → n ≤ length (scopes_for e) → get_or e.first_bits.items n 0 ≡ first_bit (bits_for e) (scopes_for e) n
-  -- for each condition on lines the numbers of what is used in it
+  -- for each condition on lines the numbers of the symbols in it
   pub conditions : length e.numbers.items ≡ length (task_in e).covered + length (task_in e).set + 1
   pub numbers : (k : ℕ) (c : Condition) (ns : Vec ℕ) → IsCondition (task_in e) k c → slice_get e.numbers.items k ≡ Some ns
       → (n : ℕ) → Contains ns.items n ↔ UsesNumber (task_in e) e.marked.now c n
@@ -72,7 +72,7 @@ abbrev pub AreFiltersFrom : Encoding → (ℕ → Bool) → ℕ → List Written
 AreFiltersFrom e v n filters =
     (i : ℕ) (f : WrittenFilter) → slice_get filters i ≡ Some f → IsFilterBy (task_in e) e.marked.now v (n + i) f
 
--- they write no filter that is tried for the symbol with this number
+-- the bits write no filter that is tried for the symbol with this number
 abbrev pub HasNoFilter : Encoding → (ℕ → Bool) → ℕ → Type 0
 HasNoFilter e v n = (n < length (scopes_for e)) × FailsUnder (task_in e) e.marked.now v (proper n)
 

@@ -20,7 +20,7 @@ pub data Condition : Type 0 where
   line : (c : g.Condition) → Condition
 
 module _ (T : TaskData) (marked : List ℕ) where
-  -- it is one of the conditions of the set: the symbol is one of those that are numbered, the line that of a rule or of
+  -- the condition is one of the set: its symbol is one of those that are numbered, or its line is that of a rule or of
   -- a pair
   abbrev pub IsOfSet : Condition → Type 0
   IsOfSet (proper n) = n < length (scopes_of T marked)
@@ -42,7 +42,7 @@ module _ (T : TaskData) (marked : List ℕ) where
   FailsUnder v (line c) = (D : FilteringData) × IsWritten T marked v D × (Meets T D c → ⊥)
 
   -- a blocked clause: there is a guess under which all earlier clauses are true and a condition fails, and the clause
-  -- has just the literals that are false under it, over the bits of what is used in the condition (ours)
+  -- has just the literals that are false under it, over the bits of the symbols in the condition (ours)
   pub record IsBlocked (earlier : List (List Literal)) (clause : List Literal) : Type 0 where
     pub guess : ℕ → Bool
     pub allowed : Solves guess earlier

@@ -25,10 +25,10 @@ use wh_types::Or;
 // How many clauses join before guesses are made by chance.
 const BY_SOLVER: usize = 2_000;
 
-/// What a guess comes to.
+/// The outcome of a look at a guess.
 #[derive(Drop)]
 pub enum Looked {
-    /// The node of the order that it writes.
+    /// All conditions hold: the node of the order that the guess writes.
     Found(OrderNode),
     /// A condition that fails.
     Failing(Failing),
@@ -37,7 +37,7 @@ pub enum Looked {
 /// A condition that fails under a guess.
 #[derive(Clone, Copy)]
 pub enum Failing {
-    /// That the bits of the symbol with this number write a proper filter, and a precedence that is tried.
+    /// The symbol with this number: the bits have to write a proper filter, and a precedence that is tried.
     Symbol(usize),
     /// The condition on lines that has this number.
     Line(usize),
@@ -114,7 +114,7 @@ fn search<'a>(
     }
 }
 
-// The next guess: by chance, where many clauses have joined, or else what the solver comes to.
+// The next guess: by chance, where many clauses have joined, or else by the solver.
 fn next_guess<'a>(
     encoding: &Encoding<'a>,
     chance: &mut Chance,
@@ -190,7 +190,7 @@ fn block<'a>(
     Ok(())
 }
 
-// The clause that shuts out the guess: the literals that are false under it, on the bits of what is used in the
+// The clause that shuts out the guess: the literals that are false under it, on the bits of the symbols in the
 // condition.
 fn clause_for<'a>(
     alloc: Global,

@@ -19,8 +19,8 @@ use wh_types::SimpleType;
 // How many changes are tried for one guess.
 const TRIES: u64 = 64;
 
-/// What guesses by chance are made of: what chooses, and for each clause the place of a literal that was true in it
-/// last.
+/// The state of guesses by chance: a generator of random numbers, and for each clause the place of a literal that was
+/// true in it last.
 #[derive(Drop)]
 pub struct Chance {
     alloc: Global,
@@ -31,9 +31,9 @@ pub struct Chance {
 /// Where the bits of a symbol stand.
 #[derive(Clone, Copy)]
 struct Spot<'a> {
-    /// The number of the first one.
+    /// The number of the symbol's first bit.
     from: usize,
-    /// The types of its arguments.
+    /// The types of the symbol's arguments.
     scope: &'a [SimpleType],
 }
 
@@ -69,7 +69,7 @@ impl Chance {
         Ok(None)
     }
 
-    // There is a place for each of so many clauses.
+    // There is a place for each of `clauses` clauses.
     fn make_room(&mut self, clauses: usize) -> Result<(), AllocError> {
         for _ in self.places.len()..clauses {
             self.places.push(0)?;

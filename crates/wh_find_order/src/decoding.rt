@@ -1,4 +1,4 @@
-//! Orders that bits write.
+//! Decoding: the order that bits write, or the first symbol for which they write no proper filter.
 
 ghost use Rattle.std.specs.Prelude.{ℕ, ◌≡◌, ◌+◌, ◌<◌, ◌≤◌, IfOk, MatchOption, length, map};
 ghost use Rattle.wh_types.specs.Outcome.{MatchOr};
@@ -34,7 +34,7 @@ pub fn order_by<'a>(
     Ok(Filters { funs, marks })
 }
 
-// The filters of so many symbols.
+// The filters of the first `symbols` symbols.
 fn symbol_filters<'a>(
     alloc: Global,
     encoding: &Encoding<'a>,
@@ -57,7 +57,7 @@ fn symbol_filters<'a>(
     Ok(funs)
 }
 
-// Those of the marked symbols, which are numbered on behind so many symbols.
+// The filters of the marked symbols, which are numbered on behind `symbols` symbols.
 fn mark_filters<'a>(
     alloc: Global,
     encoding: &Encoding<'a>,

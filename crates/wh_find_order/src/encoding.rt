@@ -1,4 +1,4 @@
-//! How the orders for a task are written by bits, and what is used in each condition.
+//! How the orders for a task are written by bits, and which symbols stand in each condition.
 
 ghost use Rattle.std.specs.Prelude.{◌≡◌, ◌++◌, IfOk, OnOk, map};
 ghost use Rattle.wh_types.specs.Erase.{ty};
@@ -22,9 +22,9 @@ use wh_reduction_pairs::Task;
 use wh_system::System;
 use wh_types::{SimpleType, counted};
 
-/// A task with the marked symbols of its set, and what is looked up in the search: of each symbol, and then of each
-/// marked one, the types of its arguments and which bit comes first; how many bits a precedence has; and of each
-/// condition on lines the numbers of what is used in it.
+/// A task with the marked symbols of its set, and what the search looks up: for each symbol, and then for each marked
+/// one, the types of its arguments and its first bit; how many bits a precedence has; and for each condition on lines
+/// the numbers of the symbols in it.
 #[derive(Drop)]
 pub struct Encoding<'a> {
     pub task: Task<'a>,
@@ -35,8 +35,8 @@ pub struct Encoding<'a> {
     pub numbers: Vec<Vec<usize>>,
 }
 
-/// That of a task. Fails also where there are more bits than a solver has variables, or where a precedence has more
-/// than 31.
+/// The encoding of the orders for a task. Fails also where there are more bits than a solver has variables, or where a
+/// precedence has more than 31.
 pub fn encoding_of<'a>(
     alloc: Global,
     task: &Task<'a>,
@@ -91,7 +91,7 @@ fn symbol_scopes(alloc: Global, kinds: &[SimpleType]) -> Result<Vec<Vec<SimpleTy
     Ok(scopes)
 }
 
-// Those of each of the marked symbols join.
+// The types of the arguments of each marked symbol join.
 fn add_mark_scopes(
     alloc: Global,
     system: &System,

@@ -1,4 +1,4 @@
-//! The filters that bits write.
+//! Decoding the filter of one symbol from its bits.
 
 ghost use Rattle.std.specs.Prelude.{ℕ, ◌≡◌, ◌↔◌, ◌+◌, ◌*◌, ◌<◌, ◌≤◌, ◌^◌, IfOk, IsTrue, MatchOption, None, Some, slice_get};
 ghost use Rattle.wh_types.specs.Erase.{ty, tys};
@@ -15,7 +15,7 @@ use wh_order_inference::Filter;
 use wh_poly_blocking::bit;
 use wh_types::{Numbers, SimpleType};
 
-/// The filter that the bits from one on write for a symbol with so many arguments, if they write one.
+/// The filter that the bits from `from` on write for a symbol with `places` arguments, if they write one.
 pub fn filter_by(
     alloc: Global,
     values: &[bool],
@@ -43,7 +43,7 @@ pub fn filter_by(
     Ok(None)
 }
 
-// The places, counted from 1, whose bits are set, of so many bits from one on.
+// The places, counted from 1, whose bits are set, of `count` bits from `from` on.
 fn places_by(
     alloc: Global,
     values: &[bool],
@@ -62,7 +62,7 @@ fn places_by(
     Ok(made)
 }
 
-/// The number that so many bits from one on write, of which the lowest one comes first.
+/// The number that `count` bits from `from` on write, the lowest one first.
 pub fn number_by(values: &[bool], from: usize, count: usize) -> u32
     requires bits { count < 32 }
     requires few { from + count < 2 ^ 32 }

@@ -1,4 +1,5 @@
-//! The search for path orders of a set.
+//! The search for path orders of a set: a circuit first, and then guesses by a solver and by chance. `find_order` is
+//! the main function.
 
 ghost use Rattle.std.specs.Prelude.{◌<◌, ◌≤◌, All, IfOk, length};
 ghost use Rattle.wh_types.specs.Limits.{most_pairs};
@@ -23,7 +24,7 @@ use wh_sat::Search;
 use wh_sat_trail::Clauses;
 use wh_system::System;
 
-// The circuit is given up where its solver has learnt so many clauses.
+// The greatest number of clauses that the circuit's solver may learn before it is given up.
 const MOST_LEARNT: u64 = 50_000;
 
 /// Argument filters, precedences and inferences under which no rule and no pair of the set grows and some pair shrinks
@@ -56,7 +57,7 @@ pub fn find_order(
     find_order_of(alloc, &task, &marked, budget)
 }
 
-// The same for a task, with the marked symbols of its set.
+// Searches for a task, with the marked symbols of its set.
 fn find_order_of<'a>(
     alloc: Global,
     task: &Task<'a>,

@@ -18,17 +18,18 @@ use wh_proof::{lines_of_filters, lines_of_mark_filters};
 use wh_reduction_pairs::Task;
 use wh_types::Or;
 
-/// What an order comes to.
+/// The outcome of an order.
 #[derive(Drop)]
 pub enum Weighing {
-    /// The node of it: all conditions hold.
+    /// All conditions hold: the node of the order.
     Found(OrderNode),
     /// The number of a condition on lines that fails.
     Failing(usize),
 }
 
-/// The node of the order, if under it there are lines for every rule and every pair of the set, and some pair's is not
-/// that of equal trees; else a condition that fails, of the pairs first. All pairs that the order lets go are dropped.
+/// The node of the order, if under it there are lines for every rule and every pair of the set, and some pair's line is
+/// not that of equal trees; else a condition that fails, of the pairs first. All pairs that the order lets go are
+/// dropped.
 pub fn node_of_order<'a>(
     alloc: Global,
     task: &Task<'a>,
@@ -55,7 +56,8 @@ pub fn node_of_order<'a>(
     node_with(alloc, task, filters, rules, found)
 }
 
-/// The number of the condition of the pair with this place in the set, and behind these of the last condition.
+/// The number of the condition of the pair with this place in the set. The place behind all pairs stands for the last
+/// condition, that some pair shrinks.
 pub fn number_of_pair<'a>(task: &Task<'a>, place: usize) -> usize
     requires { place ≤ length task.now.set.now }
     ensures { result ≡ length (task_data task.now).covered + place }

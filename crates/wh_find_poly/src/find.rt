@@ -1,4 +1,5 @@
-//! The search for interpretations of a set.
+//! The search for interpretations of a set: a climb, then ranges of coefficients, and then guesses by a solver.
+//! `find_interpretation` is the main function.
 
 ghost use Rattle.std.specs.Prelude.{◌<◌, ◌≤◌, All, IfOk, length};
 ghost use Rattle.wh_types.specs.Limits.{most_pairs};
@@ -20,13 +21,14 @@ use wh_reduction_pairs::{Task, all_rules};
 use wh_sat::Search;
 use wh_system::System;
 
-// How many times the sides of a rule or pair are evaluated in the climb: so often, and so often more for each of them.
+// How many times the sides of a rule or pair are evaluated in the climb: `EVALUATIONS`, and `EVALUATIONS_FOR_EACH` for
+// each rule and pair.
 const EVALUATIONS: u64 = 30_000;
 
 const EVALUATIONS_FOR_EACH: u64 = 50;
 
-// How much work the search in ranges has: so much, and so much more for each rule or pair beside each other, since each
-// pair is asked to be covered strictly and that may go through all; and no more than so much.
+// How much work the search in ranges may do: `WORK`, and `WORK_FOR_EACH_TWO` for each two rules or pairs, since each
+// pair is asked to be covered strictly and that may go through all; but at most `MOST_WORK`.
 const WORK: u64 = 30_000;
 
 const WORK_FOR_EACH_TWO: u64 = 15;
@@ -63,8 +65,8 @@ pub fn find_interpretation(
     find_for(alloc, &task, &marked, budget)
 }
 
-// The same with the marked symbols of the set: a climb, then ranges of coefficients, and then guesses, of which the
-// first is the best of the climb.
+// Searches with the marked symbols of the set: a climb, then ranges of coefficients, and then guesses, of which the
+// first is the best one of the climb.
 fn find_for<'a>(
     alloc: Global,
     task: &Task<'a>,

@@ -66,7 +66,7 @@ cases_more rows pairs own set i cases after a l r here within are adds pair left
 pub cases_all : (rows : List Row) (pairs : List PairData) (own : ℕ) (set : List ℕ) (i : ℕ) (cases : List Case) → AreCases (spots rows pairs own (take i set)) cases → length set ≤ i → AreCases (spots rows pairs own set) cases
 cases_all rows pairs own set i cases are past = subst (λ ns. AreCases (spots rows pairs own ns) cases) (take_all i set past) are
 
--- lists made of so many numbers, with one number more
+-- lists made of the numbers below n + 1: what n adds to those made of the numbers below n
 
 pub made_more : (f : ℕ → Spot) (n : ℕ) → map f (range_with_len 0 (n + 1)) ≡ map f (range_with_len 0 n) ++ f n ∷ []
 made_more f n = map-range_with_len_more f 0 n n (omega arith)

@@ -36,7 +36,7 @@ append_right : (v : ℕ → Bool) (c d : List Literal) → clause_true v d ≡ t
 append_right v [] d is = is
 append_right v (l ∷ c) d is = or_right (literal_true v l) (clause_true v (c ++ d)) (append_right v c d is)
 
--- some of so many variables is true: the first one is
+-- where some of the variables is true, the first true one is among them
 
 pub record FirstTrue (v : ℕ → Bool) (first n : ℕ) : Type 0 where
   pub below : first_true v first n < n
@@ -123,7 +123,7 @@ three_when v x y z never = elim (cases_Bool (v z)) [
   | inr other ↦ append_right v (not_both x y) (no z ∷ []) (one_yes (v z) (λ own. false_true (sym other ∙ own)))
 ]
 
--- the clauses that no two of so many are true
+-- the clauses that no two of n variables are true have one for each two
 
 pub two_in : (first n i j : ℕ) → i < j → j < n → In (not_both (first + i) (first + j)) (no_two first n)
 two_in first zero i j less within = absurd (omega arith)

@@ -40,7 +40,7 @@ no_pair = record { rule = 0; metas = []; left_fun = 0; left = []; right_fun = 0;
 abbrev pub pair_at : List PairData → ℕ → PairData
 pair_at pairs n = get_or pairs n no_pair
 
--- those of a set of pairs, whose own variables are the numbers from `own` on
+-- the choices for a set of pairs, whose own variables are the numbers from `own` on
 abbrev pub spots : List Row → List PairData → ℕ → List ℕ → List Spot
 spots rows pairs own [] = []
 spots rows pairs own (n ∷ set) =
@@ -54,7 +54,7 @@ pub record IsCase (s : Spot) (c : Case) : Type 0 where
   pub own : c.own ≡ s.own
   pub relates : Relates s.pair s.left_place s.right_place c.relation
 
--- the same, one by one
+-- the cases are those of the spots, one by one
 abbrev pub AreCases : List Spot → List Case → Type 0
 AreCases [] [] = Unit {0}
 AreCases [] (c ∷ cs) = ⊥

@@ -1,4 +1,4 @@
--- The clauses on the choices of arguments.
+-- The clauses of the formula of projections: one argument of each symbol is chosen, and pairs do not grow.
 use Rattle.std.specs.Prelude.{ℕ, zero, suc, ◌+◌, true, false, List, [], ◌∷◌, ◌++◌, cond, nat_eq, nat_lt, map}
 use Rattle.std.specs.List.{flat_map, range_with_len}
 use Rattle.wh_sat_trail.specs.declared.literal.Literal.{Literal}
@@ -13,7 +13,7 @@ yes x = record { variable = x; positive = true }
 abbrev pub no : ℕ → Literal
 no x = record { variable = x; positive = false }
 
--- one of so many variables, the first of them given, is true
+-- one of `count` variables from `first` on is true
 abbrev pub some_of : ℕ → ℕ → List Literal
 some_of first count = map yes (range_with_len first count)
 
@@ -21,11 +21,11 @@ some_of first count = map yes (range_with_len first count)
 abbrev pub not_both : ℕ → ℕ → List Literal
 not_both x y = cond (nat_eq x y) (no x ∷ []) (cond (nat_lt x y) (no x ∷ no y ∷ []) (no y ∷ no x ∷ []))
 
--- a variable and each of so many behind it are not both true
+-- the variable `first` and each of `count` variables behind it are not both true
 abbrev pub with_each : ℕ → ℕ → List (List Literal)
 with_each first count = map (λ x. not_both first x) (range_with_len (first + 1) count)
 
--- no two of so many variables are true
+-- no two of `count` variables from `first` on are true
 abbrev pub no_two : ℕ → ℕ → List (List Literal)
 no_two first zero = []
 no_two first (suc count) = with_each first count ++ no_two (first + 1) count
@@ -54,7 +54,7 @@ one_chosen r = some_of r.first r.need
 abbrev pub only_one_chosen : Row → List (List Literal)
 only_one_chosen r = no_two r.first r.need
 
--- of rows and cases, and of so many pairs whose own variables begin at `end`
+-- the clauses of rows and cases, and of `count` pairs whose own variables begin at `end`
 abbrev pub clauses_of : List Row → List Case → ℕ → ℕ → List (List Literal)
 clauses_of rows cases end count =
     map one_chosen rows ++ flat_map only_one_chosen rows ++ flat_map third cases ++ flat_map fourth cases ++ some_of end count ∷ []

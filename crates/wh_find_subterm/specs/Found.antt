@@ -1,4 +1,4 @@
--- What the search for a projection ends with.
+-- The answers of the search for a projection.
 use Rattle.std.specs.Prelude.{ℕ, ◌≡◌, ◌<◌, List, length, map, Contains, Some, slice_get}
 use Rattle.wh_terms.specs.Rules.{RewriteRule}
 use Rattle.wh_pairs.specs.PairData.{PairData}

@@ -1,4 +1,4 @@
--- What the models of the formula are.
+-- The models of the formula of projections, and the projections that they say.
 use Rattle.std.specs.Prelude.{ℕ, ◌+◌, ◌<◌, ◌≡◌, ◌↔◌, Bool, true, List, length, All, Contains}
 use Rattle.wh_terms.specs.Rules.{RewriteRule}
 use Rattle.wh_pairs.specs.PairData.{PairData}

@@ -5,7 +5,7 @@ use Rattle.wh_subterm.specs.Projections.{Below, Chosen}
 use Rattle.wh_find_subterm.specs.declared.rows.Row.{Row}
 use Rattle.wh_find_subterm.specs.Cases.{pair_at}
 
--- the first of so many variables that is true, counted from 0; their number where none is
+-- the first of `count` variables from `first` on that is true, counted from 0; `count` where none is
 abbrev pub first_true : (ℕ → Bool) → ℕ → ℕ → ℕ
 first_true v first zero = zero
 first_true v first (suc count) = cond (v first) zero (suc (first_true v (first + 1) count))

@@ -1,4 +1,4 @@
--- Pairs with the numbers of their sides.
+-- Pairs with the numbers of their sides, where these were numbered.
 use Rattle.std.specs.Prelude.{IfSome}
 use Rattle.wh_pairs.specs.PairData.{pair_data}
 use Rattle.wh_intern.specs.TableTrees.{trees}

@@ -1,4 +1,4 @@
-//! The clauses on the choices of arguments.
+//! The clauses of the formula of projections: which choices of arguments they allow.
 
 ghost use Rattle.std.specs.Prelude.{◌≡◌, ◌+◌, ◌<◌, ◌≤◌, ◌^◌, ◌++◌, [], ◌∷◌, All, IfOk, OnOk, map};
 ghost use Rattle.std.specs.List.{flat_map};
@@ -10,7 +10,7 @@ use std::alloc::{AllocError, Global};
 use wh_sat_trail::{Clause, Clauses, Literal};
 use wh_subterm::Relation;
 
-/// That one of so many variables, the first of them given, is true.
+/// The clause that one of `count` variables from `first` on is true.
 pub fn some_of(alloc: Global, first: u32, count: u32) -> Result<Clause, AllocError>
     requires { first + count < 2 ^ 32 }
     ensures { IfOk result (λ clause. clause ≡ some_of first count) }
@@ -25,7 +25,7 @@ pub fn some_of(alloc: Global, first: u32, count: u32) -> Result<Clause, AllocErr
     Ok(clause)
 }
 
-// That two variables are not both true; the literals stand by their variables, each once.
+// The clause that two variables are not both true; the literals stand in the order of their variables, each once.
 fn not_both(alloc: Global, left: u32, right: u32) -> Result<Clause, AllocError>
     ensures { IfOk result (λ clause. clause ≡ not_both left right) }
 {
@@ -49,7 +49,7 @@ fn negative(variable: u32) -> Literal
     }
 }
 
-/// Of each symbol some argument is chosen.
+/// The clauses that of each symbol some argument is chosen join.
 pub fn add_one_chosen(alloc: Global, clauses: &mut Clauses, rows: &[Row]) -> Result<(), AllocError>
     requires { All (λ r. r.first + r.need < 2 ^ 32) rows.now }
     ensures { OnOk result (clauses.new ≡ clauses.old ++ map one_chosen rows.now) }
@@ -60,7 +60,7 @@ pub fn add_one_chosen(alloc: Global, clauses: &mut Clauses, rows: &[Row]) -> Res
     Ok(())
 }
 
-/// Of each symbol no two arguments are chosen.
+/// The clauses that of each symbol no two arguments are chosen join.
 pub fn add_only_one_chosen(
     alloc: Global,
     clauses: &mut Clauses,
@@ -75,7 +75,7 @@ pub fn add_only_one_chosen(
     Ok(())
 }
 
-// No two of so many variables are true.
+// The clauses that no two of `count` variables from `first` on are true join.
 fn add_no_two(
     alloc: Global,
     clauses: &mut Clauses,
@@ -91,7 +91,7 @@ fn add_no_two(
     Ok(())
 }
 
-// A variable and each of so many behind it are not both true.
+// The clauses that the variable `first` and each of `count` variables behind it are not both true join.
 fn add_pairs_with(
     alloc: Global,
     clauses: &mut Clauses,
@@ -107,7 +107,7 @@ fn add_pairs_with(
     Ok(())
 }
 
-/// No two arguments are chosen under which a pair is neither equal nor below.
+/// The clauses that no two arguments are chosen under which a pair is neither equal nor below join.
 pub fn add_third(alloc: Global, clauses: &mut Clauses, cases: &[Case]) -> Result<(), AllocError>
     ensures { OnOk result (clauses.new ≡ clauses.old ++ flat_map third cases.now) }
 {
@@ -119,7 +119,7 @@ pub fn add_third(alloc: Global, clauses: &mut Clauses, cases: &[Case]) -> Result
     Ok(())
 }
 
-/// Where two arguments are chosen under which a pair is not below, its variable is false.
+/// The clauses join that say: where two arguments are chosen under which a pair is not below, its variable is false.
 pub fn add_fourth(alloc: Global, clauses: &mut Clauses, cases: &[Case]) -> Result<(), AllocError>
     ensures { OnOk result (clauses.new ≡ clauses.old ++ flat_map fourth cases.now) }
 {

@@ -1,4 +1,5 @@
-//! The search for a projection that lets pairs go.
+//! The search for a projection that lets pairs go. `find_projection` is the main function: the models of a formula are
+//! the projections, and a solver looks for one.
 
 ghost use Rattle.std.specs.Prelude.{◌≢◌, ◌≡◌, ◌+◌, ◌<◌, ◌^◌, ℕ, [], false, All, IfOk, IfSome, get_or, length, map};
 ghost use Rattle.wh_pairs.specs.PairData.{IsIncreasing, pair_data};

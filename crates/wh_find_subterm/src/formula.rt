@@ -39,7 +39,7 @@ pub fn formula_of(
     Ok(Formula { variables, clauses })
 }
 
-// Its clauses.
+// The clauses of the formula.
 fn clauses_of(alloc: Global, rows: &Rows, cases: &[Case], count: u32) -> Result<Clauses, AllocError>
     requires room { rows.now.end + count < 2 ^ 32 }
     requires each { All (λ r. r.first + r.need ≤ rows.now.end) rows.now.items.items }

@@ -1,4 +1,4 @@
-//! What the models of the formula are.
+//! Laws of the formula of projections: its models are the projections that let a pair go.
 
 ghost use Rattle.wh_find_subterm.specs.Laws.{FormulaIsOne, ModelsAreProjections, ProjectionsAreModels};
 

@@ -1,4 +1,4 @@
-//! The projection that a model says.
+//! Reading a model: the projection that it says, and the pairs that go by it.
 
 ghost use Rattle.std.specs.Prelude.{◌≡◌, ◌+◌, ◌<◌, ◌≤◌, ◌^◌, ℕ, false, All, IfOk, IfSome, get_or, length, map};
 ghost use Rattle.wh_pairs.specs.PairData.{IsIncreasing, pair_data};
@@ -13,7 +13,7 @@ use wh_intern_pairs::Numbered;
 use wh_pairs::{Pair, PairSet};
 use wh_subterm::{Choice, Projection};
 
-/// Of each symbol the first argument whose variable is true.
+/// The choice, for each symbol, of the first argument whose variable is true.
 pub fn choices_by(alloc: Global, values: &[bool], rows: &[Row]) -> Result<Projection, AllocError>
     requires few { length values.now < 2 ^ 32 }
     requires rows { All (λ r. r.first + r.need < length values.now) rows.now }
@@ -29,7 +29,7 @@ pub fn choices_by(alloc: Global, values: &[bool], rows: &[Row]) -> Result<Projec
     Ok(args)
 }
 
-// The first of so many variables that is true, counted from 0; their number where none is.
+// The first of `count` variables from `first` on that is true, counted from 0; `count` where none is.
 fn first_true(values: &[bool], first: u32, count: u32) -> u32
     requires few { length values.now < 2 ^ 32 }
     requires within { first + count ≤ length values.now }

@@ -1,4 +1,4 @@
-//! Which variables of the formula stand for the arguments of which symbol.
+//! Rows: which variables of the formula stand for the arguments of which marked symbol.
 
 ghost use Rattle.std.specs.Prelude.{◌≡◌, IfOk};
 ghost use Rattle.wh_system.specs.SystemView.{system_data};

@@ -41,7 +41,7 @@ pub fn sight_of<'a>(pairs: &'a [Pair], numbered: Option<&'a Numbered>, number: u
     }
 }
 
-/// What the arguments of the pair at two places, counted from 0, are to one another.
+/// The relation of the arguments of the pair at two places, counted from 0.
 pub fn relation_in<'a>(sight: &Sight<'a>, left: u32, right: u32) -> Relation
     requires { IsSight sight.now }
     ensures { Relates (pair_data sight.now.pair.now) left right result }

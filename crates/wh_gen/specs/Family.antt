@@ -10,7 +10,7 @@ use Rattle.wh_terms.specs.Typing.{Symbols, Declared}
 use Rattle.wh_terms.specs.Rules.{RewriteRule}
 use Rattle.wh_system.specs.Systems.{SystemData}
 
--- there is no generated system of so many functions (ours)
+-- there is no generated system of n functions (ours)
 abbrev pub IsOutOfRange : ℕ → Type 0
 IsOutOfRange n = (n ≡ 0) ⊎ (most_generated < n)
 
@@ -108,11 +108,11 @@ second_right (suc j) = map_of j (mapped_list (suc j))
 abbrev pub first_rule : ℕ → RewriteRule
 first_rule i = record { metas = first_metas; left = map_of i nil; right = nil }
 
--- its second rule: `mi (\x:nat.F[x]) (cons X Y)` becomes the right side above
+-- the second rule of the function number i: `mi (\x:nat.F[x]) (cons X Y)` becomes the right side above
 abbrev pub second_rule : ℕ → RewriteRule
 second_rule i = record { metas = second_metas; left = map_of i (cons meta_x meta_y); right = second_right i }
 
--- both rules, in this order
+-- the two rules of a function, in this order
 abbrev pub rules_of : ℕ → List RewriteRule
 rules_of i = first_rule i ∷ second_rule i ∷ []
 

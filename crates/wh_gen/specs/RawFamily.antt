@@ -119,7 +119,7 @@ raw_first_rule i = record {
   at = 0;
 }
 
--- its second rule
+-- the second rule of the function number i
 abbrev pub raw_second_rule : ℕ → RRule
 raw_second_rule i = record {
   metas = raw_f ∷ raw_x_meta ∷ raw_y_meta ∷ [];
@@ -137,7 +137,7 @@ raw_base = raw_fun (codes "zero") raw_nat ∷ raw_fun (codes "s") raw_step ∷ r
 abbrev pub raw_map_fun : ℕ → RFun
 raw_map_fun i = raw_fun (map_name i) (raw_onto_lists raw_step)
 
--- its rules
+-- the rules of the function number i
 abbrev pub raw_rules_of_map : ℕ → List RRule
 raw_rules_of_map i = raw_first_rule i ∷ raw_second_rule i ∷ []
 

@@ -1,4 +1,4 @@
-//! The sorts, the symbols and the meta-variables of a generated system.
+//! The sorts, the symbols and the meta-variables of a generated system, as a text declares them.
 
 ghost use Rattle.std.specs.Prelude.{◌≡◌, ◌∷◌, [], ◌++◌, IfOk, OnOk, map};
 ghost use Rattle.std.specs.List.{range_with_len};
@@ -27,7 +27,7 @@ fn declared(alloc: Global, name: &[u8]) -> Result<RawName, AllocError>
     })
 }
 
-/// The sorts.
+/// The sorts of a generated system.
 pub fn sorts(alloc: Global) -> Result<RawNames, AllocError>
     ensures { IfOk result (λ raw. map rname raw ≡ map raw_name sort_names) }
 {
@@ -68,7 +68,7 @@ fn add_map(alloc: Global, number: u32, funs: &mut RawFuns) -> Result<(), AllocEr
     add_fun(alloc, name.bytes(), kind, funs)
 }
 
-/// The symbols, with that many functions.
+/// The symbols of a generated system with `count` functions.
 pub fn funs(alloc: Global, count: u32) -> Result<RawFuns, AllocError>
     ensures { IfOk result (λ raw. map rfun raw ≡ raw_base ++ map raw_map_fun (range_with_len 0 count)) }
 {

@@ -16,7 +16,7 @@ use wh_system_making::system_of;
 use wh_system_parts::Parts;
 use wh_types::Or;
 
-/// There is no generated system of so many functions.
+/// The number of functions is 0 or above 200: there is no such generated system.
 #[derive(Clone, Copy)]
 pub struct GenTooMany;
 
@@ -36,7 +36,7 @@ pub fn generate(alloc: Global, n: u32) -> Result<System, Or<GenTooMany>>
     }
 }
 
-// The parts of the system of so many functions.
+// The parts of the system of `count` functions.
 fn family(alloc: Global, count: u32) -> Result<Parts, AllocError>
     ensures { IfOk result (λ parts. rparts parts ≡ raw_family count) }
 {

@@ -1,4 +1,4 @@
-//! The rules of a generated system: two for each function.
+//! The rules of a generated system, as a text has them: two for each function.
 
 ghost use Rattle.std.specs.Prelude.{◌≡◌, ◌∷◌, [], ◌++◌, IfOk, OnOk, map};
 ghost use Rattle.wh_text.specs.Erase.{rtm};
@@ -94,7 +94,8 @@ fn mapped_list(alloc: Global, number: u32) -> Result<RawTerm, AllocError>
     cons(alloc, head, tail)
 }
 
-// That list for the first function, and for a further one what the function before it gives of that list.
+// The right side of a function's second rule: for the first function its mapped list, and for a further one the call of
+// the function before it on that list.
 fn second_right(alloc: Global, number: u32) -> Result<RawTerm, AllocError>
     ensures { IfOk result (λ raw. rtm raw ≡ raw_second_right number) }
 {
@@ -127,7 +128,7 @@ fn add_rules(alloc: Global, number: u32, rules: &mut RawRules) -> Result<(), All
     rules.push(second_rule(alloc, number)?)
 }
 
-/// The rules of that many functions.
+/// The rules of `count` functions.
 pub fn rules(alloc: Global, count: u32) -> Result<RawRules, AllocError>
     ensures { IfOk result (λ raw. map rrule raw ≡ raw_rules count) }
 {

@@ -41,7 +41,7 @@ pub fn step(alloc: Global) -> Result<RawType, AllocError>
     over(alloc, args, b"nat")
 }
 
-/// From the type and `list` to `list`.
+/// The type of functions from this type and `list` to `list`.
 pub fn onto_lists(alloc: Global, first: RawType) -> Result<RawType, AllocError>
     ensures { IfOk result (λ raw. rty raw ≡ raw_onto_lists (rty first)) }
 {

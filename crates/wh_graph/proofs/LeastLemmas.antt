@@ -70,7 +70,7 @@ among_all Q list i a past least =
     (λ n (found, q). let there = place_of list n found in
     let within = slice_get_within list there.0 n there.1 in (there.0, omega arith, there.1, q)) a least
 
--- the same of the blocks before a place
+-- the number n stands in one of the first i blocks, and Q holds of it
 abbrev pub AmongBlocks : (ℕ → Type 0) → List (List ℕ) → ℕ → ℕ → Type 0
 AmongBlocks Q blocks i n = (j k : ℕ) × (j < i) × StandsAt blocks j k n × Q n
 

@@ -33,9 +33,9 @@ IsFirstBackEdge E blocks a b =
 pub record AreBlocks (E : ℕ → ℕ → Type 0) (set : List ℕ) (blocks : List (List ℕ)) : Type 0 where
   -- there are at least two blocks
   pub enough : 2 ≤ length blocks
-  -- none is empty
+  -- no block is empty
   pub filled : Contains blocks [] → ⊥
-  -- they partition the set
+  -- the blocks partition the set
   pub partition : Partition set blocks
   -- no number of an earlier block may follow one of a later block
   pub ordered : (i j a b : ℕ) → i < j → IsIn blocks j a → IsIn blocks i b → E a b → ⊥

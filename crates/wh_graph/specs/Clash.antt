@@ -1,4 +1,5 @@
--- When a meta-term can reduce to no instance of a pattern.
+-- `Clash`: a meta-term can reduce to no instance of a pattern, since their roots, or those of two parts, differ and
+-- can't change.
 use Rattle.std.specs.Prelude.{◌≡◌, ◌≢◌, List, Some}
 use Rattle.wh_types.specs.Ty.{Ty}
 use Rattle.wh_terms.specs.Tree.{Tm, lam, app}

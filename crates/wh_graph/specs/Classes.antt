@@ -1,4 +1,4 @@
--- Classes of vertices by their numbers.
+-- Classes of vertices, each told by a number, while the strongly connected components are found.
 use Rattle.std.specs.Prelude.{ℕ, ◌<◌, ◌≤◌, ◌≡◌, ◌⊎◌, ◌↔◌, List, Option, Some, None, length, slice_get, Contains}
 use Rattle.wh_pairs.specs.PairData.{IsIncreasing}
 use Rattle.wh_graph.specs.Walks.{Path}

@@ -28,5 +28,5 @@ pub record AreComponents (E : ℕ → ℕ → Type 0) (set : List ℕ) (blocks :
   pub filled : Contains blocks [] → ⊥
   -- two numbers are in one block exactly where each reaches the other
   pub classes : (i j a b : ℕ) → IsIn blocks i a → IsIn blocks j b → (i ≡ j) ↔ (Reaches E set a b × Reaches E set b a)
-  -- none of an earlier block may follow one of a later block
+  -- no pair of an earlier block may follow one of a later block
   pub ordered : (i j a b : ℕ) → i < j → IsIn blocks j a → IsIn blocks i b → E a b → ⊥

@@ -40,7 +40,7 @@ pub record IsGraph (g : Graph) : Type 0 where
   pub leaders : AreLists (Turned (edge_of g)) (size_of g) g.leaders.items
   pub few : size_of g < 2 ^ 32
 
--- it is the graph of a list of pairs: an edge leads from each to those that may follow it (Fuhs and Kop 2019)
+-- the graph is the one of a list of pairs: an edge leads from each to those that may follow it (Fuhs and Kop 2019)
 pub record IsGraphOf (rules : List RewriteRule) (pairs : List PairData) (g : Graph) : Type 0 where
   pub graph : IsGraph g
   pub size : size_of g ≡ length pairs

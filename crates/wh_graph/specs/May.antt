@@ -1,4 +1,4 @@
--- Which dependency pair may follow which.
+-- `May`: one dependency pair may follow another. These are the edges of the dependency graph.
 use Rattle.std.specs.Prelude.{ℕ, ◌≡◌, List, Some, slice_get}
 use Rattle.wh_terms.specs.Tree.{Tm}
 use Rattle.wh_terms.specs.Rules.{RewriteRule}
@@ -15,6 +15,6 @@ pub record May (rules : List RewriteRule) (a b : PairData) : Type 0 where
   pub heads : a.right_fun ≡ b.left_fun
   pub arguments : SomeClash rules a.right b.left → ⊥
 
--- the same of two pairs of the list, by their numbers
+-- the pair with the number b may follow the pair with the number a, both of one list
 abbrev pub Follows : List RewriteRule → List PairData → ℕ → ℕ → Type 0
 Follows rules pairs a b = (x y : PairData) × (slice_get pairs a ≡ Some x) × (slice_get pairs b ≡ Some y) × May rules x y

@@ -11,7 +11,7 @@ pub data Root : Type 0 where
   variable : (i n : ℕ) → Root
   symbol : (f n : ℕ) → Root
 
--- the root of a spine with the head and so many arguments: a meta-application has none, nor has an abstraction that is
+-- the root of a spine with this head and n arguments: a meta-application has none, nor has an abstraction that is
 -- applied, nor a free variable
 abbrev pub root_at : Tm → ℕ → Option Root
 root_at (lam a t) zero = Some abstraction

@@ -1,4 +1,4 @@
--- How often a number is listed.
+-- How often a number is listed in blocks, as the test of a partition counts it.
 use Rattle.std.specs.Prelude.{ℕ, ◌<◌, ◌≡◌, ◌⊎◌, List, Some, Contains, slice_get}
 use Rattle.wh_graph.specs.Components.{StandsAt}
 use Rattle.wh_graph.specs.Blocks.{IsListed, IsRepeated}

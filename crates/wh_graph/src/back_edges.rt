@@ -1,4 +1,4 @@
-//! Pairs of a later block that one of an earlier block may follow.
+//! Back edges: pairs of a later block that one of an earlier block may follow. A node `blocks` must have none.
 
 ghost use Rattle.std.specs.Prelude.{◌≡◌, ◌<◌, ◌≤◌, ℕ, All, Contains, MatchOption, length, map};
 ghost use Rattle.wh_pairs.specs.PairData.{IsIncreasing, pair_data};

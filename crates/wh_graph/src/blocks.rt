@@ -1,4 +1,4 @@
-//! The blocks of a proof node.
+//! The blocks of a proof node: they divide a set of pairs, and `check_blocks` tests that no pair leads back.
 
 ghost use Rattle.std.specs.Prelude.{◌<◌, ◌≡◌, ◌↔◌, All, IsTrue, MatchResult, length, map};
 ghost use Rattle.wh_pairs.specs.PairData.{IsIncreasing, pair_data};
@@ -49,7 +49,7 @@ pub fn check_blocks(
     check_conditions(system, pairs.as_slice(), set.as_slice(), blocks)
 }
 
-// The same with the lists' elements.
+// Whether the blocks meet the conditions of `check_blocks`, on the elements of the lists.
 fn check_conditions(
     system: &System,
     pairs: &[Pair],

@@ -1,4 +1,4 @@
-//! The classes of mutual reachability, by walks against the edges.
+//! The strongly connected components of a graph, by walks against the edges.
 //!
 //! Each class is what reaches a root and has no class yet. The order in which a walk along the edges left the vertices
 //! says which vertex is the next root. Each vertex is looked for at most once and given up once, and a list is gone
@@ -24,8 +24,8 @@ pub struct Classes {
 /// The classes of mutual reachability, numbered so that no edge leads to an earlier one. The lists have the edges
 /// turned round: for each vertex those from which an edge leads to it.
 ///
-/// The vertex that was left last is in a class that no other vertex reaches. So its class is what reaches it; then the
-/// same holds of what is left (Kosaraju and Sharir).
+/// The vertex that the walk left last is in a class that no other vertex reaches. So its class is all that reaches it.
+/// Then the last one of the other vertices is in such a class among these (Kosaraju and Sharir).
 pub fn classes_of(alloc: Global, rows: &[Numbers], order: Vec<usize>) -> Result<Classes, AllocError>
     requires within { AreWithin rows.now }
     requires order { IsLeavingOrder (Turned (Edge rows.now)) (length rows.now) order.items }

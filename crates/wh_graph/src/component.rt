@@ -1,4 +1,4 @@
-//! The components of a set of pairs.
+//! The strongly connected components of a set of pairs. A proof node `blocks` has them as its blocks.
 
 ghost use Rattle.std.specs.Prelude.{◌≡◌, ◌↔◌, ◌<◌, ◌^◌, ℕ, [], All, Contains, IfOk, OnOk, Some, length, map, slice_get};
 ghost use Rattle.wh_pairs.specs.PairData.{IsIncreasing, pair_data};

@@ -26,8 +26,8 @@ impl Graph {
     ghost use Rattle.wh_system.specs.SystemView.{system_data};
     ghost use Rattle.wh_graph.specs.Graphs.{IsGraphOf, edge_of, size_of};
 
-    /// The graph of a list of pairs. Whether one may follow another is asked once of each two. More pairs than there
-    /// are numbers count as want of memory.
+    /// The graph of a list of pairs. For each two pairs it is tested once whether the one may follow the other. Where
+    /// there are more pairs than 32 bits count, the answer is want of memory.
     pub fn new(alloc: Global, system: &System, pairs: &PairList) -> Result<Graph, AllocError>
         ensures { IfOk result (IsGraphOf (system_data system.now).rules (map pair_data pairs.now)) }
     {
@@ -97,7 +97,7 @@ fn turned(alloc: Global, rows: &[Numbers]) -> Result<Vec<Numbers>, AllocError>
     Ok(back)
 }
 
-/// So many empty lists.
+/// `count` empty lists.
 pub fn empty_lists(alloc: Global, count: usize) -> Result<Vec<Numbers>, AllocError>
     ensures size { IfOk result (λ lists. length lists.items ≡ count) }
     ensures none { IfOk result (λ lists. All (λ list. list ≡ []) lists.items) }

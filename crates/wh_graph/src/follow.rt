@@ -1,4 +1,4 @@
-//! Whether one dependency pair may follow another.
+//! The edges of the dependency graph: `may_follow` decides whether one pair may follow another.
 
 ghost use Rattle.std.specs.Prelude.{◌↔◌, IsTrue, map};
 ghost use Rattle.wh_terms.specs.Erase.{tm};

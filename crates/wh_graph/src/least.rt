@@ -1,4 +1,4 @@
-//! The least of some numbers.
+//! The least of some numbers, of which there may be none.
 
 ghost use Rattle.std.specs.Prelude.{◌≡◌};
 ghost use Rattle.wh_graph.specs.Least.{smaller};

@@ -13,14 +13,14 @@ use wh_types::{Numbers, is_in};
 // How many numbers of a set are counted at once: their counts stand on the stack.
 const PIECE: usize = 4096;
 
-/// How often a number is listed.
+/// How often a number is listed in blocks.
 #[derive(Clone, Copy)]
 pub enum Times {
-    /// It is not listed.
+    /// The number is not listed.
     Never,
-    /// It is listed once.
+    /// The number is listed once.
     Once,
-    /// It is listed more than once.
+    /// The number is listed more than once.
     Often,
 }
 

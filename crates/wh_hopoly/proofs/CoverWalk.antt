@@ -82,7 +82,7 @@ nothing_has (y ∷ ys) (suc j) h w = nothing_has ys j (omega (arith, h)) w
 pub not_found : (xs ys : List Monomial) (i j : ℕ) → Left xs ys i j → length xs ≤ i → j < length ys → AtLeast (sum_of xs) (sum_of ys) → ⊥
 not_found xs ys i j l h k w = nothing_has ys j k (subst (λ p. AtLeast p (sum_of (drop j ys))) (sum_ended xs i h) (l.same.0 w))
 
--- the same of two values and their lists
+-- one polynomial is at least another where the list of its monomials is at least the other's
 pub at_least_by_lists : (p q : Poly) (xs ys : List Monomial) → xs ≡ monomials p → ys ≡ monomials q → AtLeast (sum_of xs) (sum_of ys) ↔ AtLeast (poly p) (poly q)
 at_least_by_lists p q xs ys e k = let a : poly p ≡ sum_of xs = poly_is p ∙ ap sum_of (sym e) in let b : poly q ≡ sum_of ys = poly_is q ∙ ap sum_of (sym k) in
     (subst₂ AtLeast (sym a) (sym b), subst₂ AtLeast a b)

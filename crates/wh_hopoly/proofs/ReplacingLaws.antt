@@ -268,7 +268,7 @@ module _ (head : List Ty → Arguments → Run Polynomial) (v : ℕ) (Γ Δ : Li
       (fault_right ((factor_of u).values ++ p ∷ []) _ x
       (multiply p (factor_of u).result, product_is_there head v Γ (multiply p (factor_of u).result) (product_of (drop (i + 1) us)), subst (λ q. ExceedsAs x (multiply p q)) k h)))
 
-  -- both of them as one step
+  -- one factor and the product with it, as one step
   pub multiplying_goes_on : (us : List Atom) (p r : Polynomial) (i : ℕ) (u : Atom) → Multiplying head v Γ Δ c us p i → i < length us → u ≡ get_or us i u
       → Normal Δ (factor_of u).result → ComesTo (product_with p (factor_of u)) r → (Exceeds r → ⊥) → Multiplying head v Γ Δ c us r (i + 1)
   multiplying_goes_on us p r i u g l e n (s, within) f =

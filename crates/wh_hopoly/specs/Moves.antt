@@ -4,7 +4,8 @@ use Rattle.std.specs.Prelude.{ℕ, zero, suc, ◌+◌, ◌≤◌, ◌<◌, ◌==
 use Rattle.wh_poly.specs.Polynomials.{Polynomial, zero_poly, plus, Factors, no_factors, times, Arguments, no_arguments, argument}
 use Rattle.wh_hopoly.specs.Covers.{AtLeast}
 
--- so many units of a monomial on the left, counted from 0, go to one on the right (ours)
+-- `amount` units of the monomial number `from` on the left go to the monomial number `to` on the right, both counted
+-- from 0 (ours)
 pub record Transfer : Type 0 where
   pub from : ℕ
   pub to : ℕ
@@ -65,7 +66,7 @@ pub record IsCover (left right : Polynomial) (ms : List Transfer) : Type 0 where
   pub not_over_spent : (i : ℕ) → NotOverSpent left ms i
   pub covered : (j : ℕ) → Covered right ms j
 
--- and that it is greater: a unit of the left one's constant is left over (ours)
+-- the moves show that the left polynomial is greater: a unit of its constant is left over (ours)
 pub record IsStrictCover (left right : Polynomial) (ms : List Transfer) : Type 0 where
   pub cover : IsCover left right ms
   pub constant : ℕ

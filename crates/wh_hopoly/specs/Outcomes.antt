@@ -1,4 +1,4 @@
--- What the call that evaluates an expression answers.
+-- The answers of the calls that evaluate an expression: a normal value, or a limit and the part that passes it.
 use Rattle.std.specs.Prelude.{◌≡◌, List, [], ◌∷◌, Contains}
 use Rattle.wh_types.specs.Ty.{Ty}
 use Rattle.wh_poly.specs.Polynomials.{Polynomial, Arguments}

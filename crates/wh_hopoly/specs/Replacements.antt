@@ -17,7 +17,7 @@ use Rattle.wh_hopoly.specs.declared.replacing.Place.{Place}
 abbrev pub head_by : Ty → ℕ → Polynomial → List Ty → Arguments → Run Polynomial
 head_by A n g Δ ps = applied A Δ (widened n Δ g) ps
 
--- the same, by what stands for the variable in the program (ours)
+-- what a factor headed by the variable becomes, by the replacement that the program has (ours)
 abbrev pub head_of : Replacement → List Ty → Arguments → Run Polynomial
 head_of r = head_by (ty r.kind.now) r.variable (poly r.value.now)
 

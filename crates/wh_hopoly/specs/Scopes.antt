@@ -1,4 +1,4 @@
--- What a chain of frames stands for.
+-- The scope that a chain of frames stands for.
 use Rattle.std.specs.Prelude.{List, [], ◌∷◌, ◌++◌}
 use Rattle.wh_types.specs.Ty.{Ty, arguments}
 use Rattle.wh_types.specs.Erase.{ty, tys}

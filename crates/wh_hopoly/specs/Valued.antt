@@ -1,4 +1,4 @@
--- What the evaluation of a part of an expression answers.
+-- The answers of the evaluation of a single part of an expression.
 use Rattle.std.specs.Prelude.{ℕ, ◌+◌, ◌≡◌, List, [], ◌∷◌, ◌++◌, Result, Ok, Err, Some, slice_get}
 use Rattle.wh_types.specs.Ty.{Ty}
 use Rattle.wh_types.specs.Erase.{ty}
@@ -41,7 +41,7 @@ abbrev pub fault_at : ℕ → Excess → PolyFault
 fault_at at excess.Overflow = fault.Overflow at
 fault_at at excess.TooLarge = fault.TooLarge at
 
--- the same answer, where the part that passes the limit is named (ours)
+-- the answer, where the part that passes the limit is named (ours)
 abbrev pub located_at : ℕ → Result Valued (Or Excess) → Result Valued (Or PolyFault)
 located_at at (Ok v) = Ok v
 located_at at (Err NoMemory) = Err NoMemory

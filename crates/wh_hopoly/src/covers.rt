@@ -1,4 +1,4 @@
-//! When one polynomial is at least another by its monomials alone.
+//! The test that one polynomial is at least another: monomial by monomial, with the same factors.
 
 ghost use Rattle.std.specs.Prelude.{◌↔◌, IsTrue};
 ghost use Rattle.wh_poly.specs.Erase.{poly};
@@ -15,7 +15,8 @@ pub fn at_least(a: &Poly, b: &Poly) -> bool
     ensures { IsTrue result ↔ AtLeast (poly a.now) (poly b.now) }
 {
     let (items, others) = (a.as_slice(), b.as_slice());
-    // Both lists increase, so what is passed over on the left stands before all that is left on the right.
+    // The monomials of both lists increase, so what is passed over on the left stands before all that is left on the
+    // right.
     let mut next = 0;
     for item in items {
         if next == others.len() {

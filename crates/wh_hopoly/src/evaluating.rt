@@ -17,20 +17,20 @@ use crate::valued::{Valued, apply_valued, located, value_of_symbol, value_of_var
 use std::alloc::{AllocError, Global};
 use wh_types::{Or, SimpleType};
 
-/// Where an expression stands.
+/// The scope and the readings in which an expression is evaluated.
 #[derive(Clone, Copy)]
 pub struct Setting<'a> {
     /// The scope.
     pub scope: Scope<'a>,
-    /// How many variables it has.
+    /// How many variables the scope has.
     pub count: u32,
-    /// What symbols are read as.
+    /// The interpretations of the symbols.
     pub table: Table<'a>,
 }
 
-/// The value of an expression that is well typed where it stands. `next` is the expression's own number, and comes to
-/// be that behind its last part. A fault only where the rule of the part that it names gives a value that exceeds the
-/// limit.
+/// The value of an expression that is well typed where it stands. `next` is the expression's own number; afterwards it
+/// is the number behind its last part. A fault only where the rule of the part that it names gives a value that exceeds
+/// the limit.
 #[cycle(evaluate)]
 pub fn evaluate<'a>(
     alloc: Global,

@@ -16,12 +16,12 @@ pub enum Expr {
     App(Box<Expr>, Box<Expr>),
 }
 
-/// What a symbol is read as: a polynomial in the scope of its type's arguments.
+/// The interpretation of a symbol: a polynomial in the scope of its type's arguments.
 #[derive(Drop)]
 pub struct Symbol {
     /// The symbol's type.
     pub kind: SimpleType,
-    /// Its polynomial.
+    /// The polynomial of the symbol.
     pub poly: Poly,
 }
 
@@ -30,8 +30,8 @@ pub struct Symbol {
 pub struct Move {
     /// The monomial on the left, counted from 0.
     pub from: u32,
-    /// The monomial on the right.
+    /// The monomial on the right, counted from 0.
     pub to: u32,
-    /// How many units.
+    /// How many units are moved.
     pub amount: u128,
 }

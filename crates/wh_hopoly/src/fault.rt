@@ -1,4 +1,4 @@
-//! Where a value exceeds the limits.
+//! Faults of an evaluation: which limit a value exceeds, and which part of the expression gives that value.
 
 /// The limit that a value exceeds, and the part of the expression whose own rule gives that value. Parts are numbered
 /// in preorder from 0.

@@ -1,4 +1,4 @@
-//! Laws of values, each the contract of a function that does nothing.
+//! Laws of evaluation: values are normal, and faults are of values.
 
 ghost use Rattle.std.specs.Prelude.{ℕ, ◌<◌, List, ◌↔◌, ◌++◌};
 ghost use Rattle.wh_types.specs.Ty.{Ty, arguments};

@@ -1,4 +1,4 @@
-//! Lists of moves, and lists of these: one for each rule or pair.
+//! Lists of moves, and lists of such lists: one for each rule or pair, as a certificate has them.
 
 use crate::expression::Move;
 use wh_types::List;

@@ -1,5 +1,6 @@
 //! The normal form of an expression: its value by the rules of evaluation, which stop at the first value that exceeds a
-//! limit.
+//! limit. `normal` is for an expression, `normal_call` for a further function, such as that of a marked symbol, applied
+//! to expressions.
 
 ghost use Rattle.std.specs.Prelude.{◌≡◌, ◌++◌, ◌∷◌, [], map, length, IfOk};
 ghost use Rattle.wh_types.specs.Erase.{ty};
@@ -47,7 +48,7 @@ pub fn normal(
     Ok(valued.value)
 }
 
-/// The same of a function that is no symbol of the expressions, told by its type and its polynomial, applied to
+/// The normal form of a function that is no symbol of the expressions, told by its type and its polynomial, applied to
 /// arguments in turn. It counts as one more symbol behind the others, so that its number is the number of symbols.
 pub fn normal_call(
     alloc: Global,
@@ -88,7 +89,7 @@ pub fn normal_call(
     Ok(value.value)
 }
 
-// A number of variables or of arguments. One beyond 32 bits is told as want of memory.
+// A number of variables or of arguments. Where it exceeds 32 bits the answer is want of memory.
 fn count_of(length: usize) -> Result<u32, AllocError>
     ensures { IfOk result (λ count. count ≡ length) }
 {

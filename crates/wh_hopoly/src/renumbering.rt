@@ -23,7 +23,7 @@ pub fn raise(alloc: Global, p: &Poly, from: u32, by: u32) -> Result<Poly, AllocE
     Ok(copies)
 }
 
-/// The same of factors.
+/// The factors with the numbers of variables from `from` on raised by `by`.
 #[cycle(raise)]
 pub fn raise_factors(alloc: Global, us: &Atoms, from: u32, by: u32) -> Result<Atoms, AllocError>
     ensures { IfOk result (λ r. atoms r ≡ renumber_factors (raised from by) (atoms us.now)) }
@@ -37,7 +37,7 @@ pub fn raise_factors(alloc: Global, us: &Atoms, from: u32, by: u32) -> Result<At
     Ok(copies)
 }
 
-/// The same of arguments.
+/// The arguments with the numbers of variables from `from` on raised by `by`.
 #[cycle(raise)]
 pub fn raise_arguments(alloc: Global, ps: &Polys, from: u32, by: u32) -> Result<Polys, AllocError>
     ensures { IfOk result (λ r. polys r ≡ renumber_arguments (raised from by) (polys ps.now)) }
@@ -49,7 +49,8 @@ pub fn raise_arguments(alloc: Global, ps: &Polys, from: u32, by: u32) -> Result<
     Ok(copies)
 }
 
-// A number beyond 32 bits counts more variables than memory holds, and is told as want of memory.
+// A raised number. Where it exceeds 32 bits there are more variables than memory holds, and the answer is want of
+// memory.
 fn raise_number(x: u32, from: u32, by: u32) -> Result<u32, AllocError>
     ensures { IfOk result (λ r. r ≡ raised from by x) }
 {

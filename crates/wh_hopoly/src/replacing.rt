@@ -28,7 +28,7 @@ use wh_poly_arithmetic::{Growing, Total, finish, multiply_by, multiply_by_variab
 use wh_poly_limits::tested;
 use wh_types::{Or, SimpleType};
 
-/// What stands for a variable.
+/// The value that takes the place of a variable.
 #[derive(Clone, Copy)]
 pub struct Replacement<'a> {
     /// The variable's type.
@@ -44,9 +44,9 @@ pub struct Replacement<'a> {
 pub struct Place<'a> {
     /// The scope with the variable.
     pub inner: Scope<'a>,
-    /// The scope once it is gone.
+    /// The scope without the variable.
     pub outer: Scope<'a>,
-    /// How many variables the scope with it has.
+    /// How many variables the scope with the variable has.
     pub count: u32,
 }
 

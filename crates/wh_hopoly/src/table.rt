@@ -1,5 +1,4 @@
-//! What symbols are read as: the interpretations of the symbols, and behind them that of one more function, where there
-//! is one.
+//! Tables of interpretations: those of the symbols, and behind them that of one more function, where there is one.
 
 ghost use Rattle.std.specs.Prelude.{◌≡◌, ◌<◌, length};
 ghost use Rattle.wh_types.specs.Erase.{ty};
@@ -15,9 +14,9 @@ use wh_types::SimpleType;
 /// The readings of symbols by their numbers.
 #[derive(Clone, Copy)]
 pub enum Table<'a> {
-    /// Those of these symbols.
+    /// The readings of these symbols.
     Alone(&'a [Symbol]),
-    /// Those of these symbols, and then a function of this type and polynomial.
+    /// The readings of these symbols, and behind them a function of this type and polynomial.
     With(&'a [Symbol], &'a SimpleType, &'a Poly),
 }
 
@@ -38,7 +37,7 @@ pub fn kind_of<'a>(table: &'a Table<'a>, symbol: u32) -> &'a SimpleType
     }
 }
 
-/// Its polynomial.
+/// The polynomial of the symbol.
 pub fn polynomial_of<'a>(table: &'a Table<'a>, symbol: u32) -> &'a Poly
     requires { IsKnown (readings table.now) symbol }
     ensures { poly result.now ≡ (interpretation_at (readings table.now) symbol).polynomial }

@@ -28,11 +28,11 @@ use wh_types::{Or, SimpleType};
 pub struct Valued {
     /// The value.
     pub value: Poly,
-    /// Its type.
+    /// The type of the value.
     pub kind: SimpleType,
 }
 
-/// The value of the variable in the scope, which has so many variables; a fault only where it exceeds a limit.
+/// The value of the variable in the scope, which has `count` variables; a fault only where it exceeds a limit.
 pub fn value_of_variable<'a>(
     alloc: Global,
     x: u32,
@@ -55,7 +55,7 @@ pub fn value_of_variable<'a>(
     })
 }
 
-/// The value of a symbol with this reading in a scope of so many variables; a fault only where it exceeds a limit.
+/// The value of a symbol with this reading in a scope of `count` variables; a fault only where it exceeds a limit.
 pub fn value_of_symbol(
     alloc: Global,
     kind: &SimpleType,
@@ -65,7 +65,7 @@ pub fn value_of_symbol(
     ensures ok { IfOk result (Yields (one (renumber (λ i. count + i) (poly reading.now))) (ty kind.now)) }
     ensures fault { IfBecause result (PassesLimit (one (renumber (λ i. count + i) (poly reading.now)))) }
 {
-    // Before it is copied: the numbers of its variables do not count.
+    // The reading is tested before it is copied, since the numbers of its variables do not count.
     if let Err(excess) = check_limits(reading) {
         return Err(Or::Because(excess));
     }
@@ -76,7 +76,8 @@ pub fn value_of_symbol(
     })
 }
 
-/// The value applied to another in a scope of so many variables; a fault only where a value on the way exceeds a limit.
+/// The value applied to another one in a scope of `count` variables; a fault only where a value on the way exceeds a
+/// limit.
 pub fn apply_valued<'a>(
     alloc: Global,
     function: Valued,
@@ -100,7 +101,7 @@ pub fn apply_valued<'a>(
     })
 }
 
-// What a function of this type gives.
+// The type of the result of a function of this type.
 fn codomain(kind: SimpleType) -> SimpleType
     ensures { ty result ≡ result_type (ty kind) }
 {
@@ -110,7 +111,7 @@ fn codomain(kind: SimpleType) -> SimpleType
     }
 }
 
-/// The same answer, with the number of the part that passes the limit.
+/// The answer with its fault, if it has one, at the part with the number `at`.
 pub fn located(at: u32, outcome: Result<Valued, Or<Excess>>) -> Result<Valued, Or<PolyFault>>
     ensures { result ≡ located_at at outcome }
 {

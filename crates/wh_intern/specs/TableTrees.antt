@@ -1,4 +1,4 @@
--- What a table stands for.
+-- The trees that a table of nodes stands for, by their numbers.
 use Rattle.std.specs.Prelude.{List, [], map}
 use Rattle.wh_terms.specs.Tree.{Tm}
 use Rattle.wh_intern.specs.Parts.{part_tree}

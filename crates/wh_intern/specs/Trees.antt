@@ -1,4 +1,4 @@
--- The trees that the numbers of a table stand for.
+-- The tree that a number of a table stands for, and tables that grow.
 use Rattle.std.specs.Prelude.{ℕ, ◌≡◌, ◌<◌, ◌≤◌, ◌⊎◌, List, [], ◌∷◌, ◌++◌, length, get_or, All, Contains, Some, slice_get}
 use Rattle.wh_terms.specs.Tree.{Tm, Tms, none, more}
 use Rattle.wh_terms.specs.Tree as t

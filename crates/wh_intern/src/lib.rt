@@ -1,4 +1,5 @@
-//! Terms whose equal parts are kept once, each under a number.
+//! Tables of terms in which equal parts are kept once, each under a number: two trees are equal where their numbers
+//! are.
 #![tactic(auto)]
 
 mod part;

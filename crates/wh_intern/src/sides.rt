@@ -1,4 +1,4 @@
-//! The sides of pairs by numbers.
+//! The sides of dependency pairs, with arguments as numbers of a table.
 
 use wh_types::{List, Numbers};
 

@@ -1,4 +1,4 @@
-//! A table of nodes: each different tree has one number.
+//! A table of nodes, in which each tree has one number: equal parts of terms are kept once.
 
 mod adding;
 mod building;

@@ -1,4 +1,4 @@
--- What was asked last, with its answer.
+-- The question about two numbers that was asked last, with its answer.
 use Rattle.std.specs.Prelude.{◌↔◌, List, IsTrue}
 use Rattle.wh_terms.specs.Tree.{Tm}
 use Rattle.wh_subterm.specs.ProperParts.{Part}

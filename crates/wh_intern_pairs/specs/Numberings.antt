@@ -1,4 +1,4 @@
--- What the numbered sides of pairs are.
+-- The sides of all pairs as numbers of a table: which number stands for which argument.
 use Rattle.std.specs.Prelude.{List, Option, IfSome}
 use Rattle.wh_pairs.specs.PairData.{PairData}
 use Rattle.wh_intern.specs.TableTrees.{trees}

@@ -24,7 +24,8 @@ pub record IsTypedIn (S : Symbols) (Γ : List Ty) (t : Tm) : Type 0 where
   pub typed : Typed S metas [] t kind
   pub closed : NoFree t
 
--- the same of trees that are arguments of these types
+-- the trees are arguments of these types, over meta-variables with the types of the scope, and have no loose and no
+-- free variable
 pub record AreTypedIn (S : Symbols) (Γ : List Ty) (ts : List Tm) (kinds : List Ty) : Type 0 where
   pub metas : List Declared
   pub in_scope : AreInScope metas Γ

@@ -1,7 +1,7 @@
-//! What was asked last of two numbers.
+//! The question about two numbers that was asked last, with its answer. It saves a search where it is asked again.
 
-/// Whether the tree of the one number is a proper part of that of the other, as it was asked last: pairs of one rule
-/// mostly have the same chosen arguments.
+/// Whether the tree with the number `part` is a proper part of the tree with the number `whole`, as it was asked last:
+/// pairs of one rule mostly have the same chosen arguments.
 #[derive(Clone, Copy)]
 pub struct Asked {
     /// The number of the tree that was looked into.

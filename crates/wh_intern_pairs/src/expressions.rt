@@ -12,7 +12,7 @@ use wh_hopoly::Expr;
 use wh_intern::{Part, Table};
 use wh_types::{Numbers, sum};
 
-/// The tree of that number as an expression in a scope of so many variables.
+/// The tree of that number as an expression in a scope of `scope` variables.
 #[cycle(expressions)]
 pub fn expression_of(
     alloc: Global,

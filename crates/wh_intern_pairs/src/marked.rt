@@ -64,7 +64,7 @@ fn marked_at(sides: &[Sides], set: &[u32], from: usize, symbol: u32) -> Option<u
     }
 }
 
-// The first place from the one on and before the other at which the symbol heads a side of a pair.
+// The first place from `from` on and before `to` at which the symbol heads a side of a pair.
 fn headed_between(
     sides: &[Sides],
     set: &[u32],

@@ -1,4 +1,4 @@
-//! What marked symbols are read as.
+//! The interpretation of a marked symbol, looked up in a list.
 
 ghost use Rattle.std.specs.Prelude.{◌≡◌, Some, slice_get};
 ghost use Rattle.wh_polycheck.specs.Marks.{HasMark, place_of};

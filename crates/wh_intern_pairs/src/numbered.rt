@@ -1,4 +1,4 @@
-//! The sides of all pairs of a system, numbered once.
+//! The sides of all pairs of a system, numbered once, with the table that the numbers are of.
 
 mod building;
 mod sharing;

@@ -1,4 +1,4 @@
-//! The sides of pairs, numbered in one table.
+//! Numbering the sides of pairs: their arguments join one table, and left sides that pairs share join once.
 
 ghost use Rattle.std.specs.Prelude.{◌≡◌, ◌↔◌, ◌⊎◌, ◌<◌, ◌-◌, Contains, IfOk, IsTrue, OnOk, Some, length, map, slice_get, take};
 ghost use Rattle.wh_terms.specs.Erase.{tm};

@@ -1,4 +1,4 @@
-//! Proper parts of a numbered tree that are reached through arguments alone.
+//! Proper parts of a numbered tree that are reached through arguments of symbols alone.
 
 ghost use Rattle.std.specs.Prelude.{◌≡◌, ◌↔◌, ◌<◌, IsTrue, List, length};
 ghost use Rattle.wh_terms.specs.Tree.{Tm};
@@ -10,9 +10,9 @@ ghost use Rattle.wh_intern_pairs.specs.Asking.{IsAnswered};
 use crate::asked::Asked;
 use wh_intern::{Part, Table};
 
-/// Whether the tree of the one number is a proper part of that of the other, reached through arguments of spines headed
-/// by symbols. Parts have lesser numbers, so a tree is not looked into whose number is not above the one that is
-/// sought.
+/// Whether the tree with the number `part` is a proper part of the tree with the number `whole`, reached through
+/// arguments of spines headed by symbols. Parts have lesser numbers, so a tree whose number is not above `part` is not
+/// looked into.
 #[cycle(parts)]
 pub fn has_part(table: &Table, whole: u32, part: u32) -> bool
     requires whole { whole < length (trees table.now) }

@@ -55,8 +55,9 @@ pub fn side_by_number<'a>(
 }
 
 /// The normal form of the right side of a pair by numbers, or of its left side, in the scope of the pair's
-/// meta-variables, where symbols and marked symbols are read as `readings` say (Fuhs and Kop 2012). `Ok` and `Err` as
-/// for a rule.
+/// meta-variables, where symbols and marked symbols are read as `readings` say (Fuhs and Kop 2012).
+///
+/// `Err` comes only where some value in the evaluation exceeds the limit that it names, and `Ok` only where none does.
 pub fn pair_side_by_number<'a>(
     alloc: Global,
     system: &System,

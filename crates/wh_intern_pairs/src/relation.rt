@@ -11,7 +11,7 @@ use crate::parts::{has_part, is_same};
 use wh_intern::{Sides, Table};
 use wh_subterm::Relation;
 
-/// What the arguments of a numbered pair at two places, counted from 0, are to one another: the answer of
+/// The relation of the arguments of a numbered pair at two places, counted from 0: the answer of
 /// `wh_subterm::relation_at` for the pair with those sides.
 pub fn relation_by_number(table: &Table, sides: &Sides, left: u32, right: u32) -> Relation
     requires { (p : PairData) × AreSidesOf (trees table.now) sides.now p }
@@ -37,7 +37,7 @@ fn number_at(numbers: &[u32], place: u32) -> Option<u32>
     }
 }
 
-// What the trees of two numbers are to one another.
+// The relation of the trees of two numbers.
 fn compared(table: &Table, left: u32, right: u32) -> Relation
     requires left { left < length (trees table.now) }
     requires right { right < length (trees table.now) }

@@ -1,4 +1,4 @@
--- Lists of rules that are not all rules.
+-- Lists of rules that lack a rule of the system.
 use Rattle.std.specs.Prelude.{ℕ, ◌≢◌, List, length}
 use Rattle.wh_system.specs.Systems.{SystemData}
 use Rattle.wh_reduction_pairs.specs.TaskData.{numbers_from}

@@ -1,4 +1,4 @@
--- What the search for interpretations of a set ends with.
+-- The answers of the search for interpretations of a set by all its means.
 use Rattle.std.specs.Prelude.{ℕ, List, Option, Some, None}
 use Rattle.wh_system.specs.Systems.{SystemData}
 use Rattle.wh_pairs.specs.PairData.{PairData}
@@ -20,7 +20,7 @@ abbrev pub IsShortList : SystemData → List PairData → List ℕ → Option (L
 IsShortList d ps set None = Unit {0}
 IsShortList d ps set (Some listed) = IsUsable (poly_task d ps set (Some listed)) × HasFewer d listed
 
--- and the set is flat where its rules are to be covered
+-- the set is flat where the rules of the list are to be covered
 abbrev pub IsFlatList : SystemData → List PairData → List ℕ → Option (List ℕ) → Type 0
 IsFlatList d ps set None = Unit {0}
 IsFlatList d ps set (Some listed) = IsShortList d ps set (Some listed) × IsFlat (poly_task d ps set (Some listed))
@@ -31,8 +31,8 @@ pub record Interprets (d : SystemData) (ps : List PairData) (set : List ℕ) (li
   pub list : IsShortList d ps set usable
   pub is : IsInterpretationOver d ps set usable line
 
--- such a node; that no interpretation of the space lets a pair go where all rules are to be covered; or the clauses of
--- the search for one
+-- the answer of the search: a node of interpretations; or that no interpretation of the space lets a pair go where all
+-- rules are to be covered; or the clauses of the search for one
 abbrev pub IsInterpreted : SystemData → List PairData → List ℕ → ℕ → Search Node → Type 0
 IsInterpreted d ps set budget (search.Found node) = Interprets d ps set (said_node node)
 IsInterpreted d ps set budget search.Nothing = HasNoInterpretation (task_of d ps set)

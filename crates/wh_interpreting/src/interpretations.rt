@@ -1,5 +1,5 @@
-//! Interpretations that let a pair of a set go: by formulas for flat sets where a climb finds none, and by the wider
-//! search.
+//! The search for interpretations that let a pair of a set go, by all its means in turn: `interpretation_of` climbs,
+//! asks formulas for flat sets where the climb finds none, and then starts the wider search.
 
 ghost use Rattle.std.specs.Prelude.{◌<◌, ◌≤◌, All, IfOk, IfSome, IsTrue, None, Some, length};
 ghost use Rattle.wh_types.specs.Limits.{most_pairs};
@@ -24,18 +24,18 @@ use wh_system::System;
 use wh_types::Numbers;
 use wh_usable_rules::usable_rules;
 
-// The formula over all rules is made for systems with at most so many symbols: the solver needs long for the formulas
-// of more.
+// The formula over all rules is made for systems with at most this number of symbols: the solver needs long for the
+// formulas of larger ones.
 const MOST_SYMBOLS: usize = 16;
 
 // How many times the sides of a rule or pair are evaluated in the climb before the formulas.
 const EVALUATIONS: u64 = 30_000;
 
-// The formula over the usable rules is made where these and the pairs of the set are at most so many together.
+// The formula over the usable rules is made where these and the pairs of the set are at most this number together.
 const MOST_COVERED: usize = 40;
 
-// The search by the formula over the usable rules is given up with so many learnt clauses: most sets of programs need
-// fewer than a hundred, and the wider search goes on.
+// The search by the formula over the usable rules is given up with this number of learnt clauses: most sets of programs
+// need fewer than a hundred, and the wider search goes on.
 const MOST_LEARNT: u64 = 1_000;
 
 /// Interpretations under which no rule that is to be covered and no pair of the set grows and some pair shrinks.

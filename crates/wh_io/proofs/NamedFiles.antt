@@ -34,7 +34,7 @@ no_place (file ∷ files) name i e =
     λ b. elim b as (λ v. cond v (Some i) (position_from (is_named name) (i + 1) files) ≡ None → cond v (Some file.1) (file_named files name) ≡ None) [ true ↦ λ f. absurd (cc f) | false ↦ no_place files name (i + 1) ] in
     step (is_named name file) e
 
--- the same, at what `position` gives
+-- where `position` finds no file of the name, none is named so
 pub none_named : (files : List File) (name : List ℕ) → position (is_named name) files ≡ None → file_named files name ≡ None
 none_named files name e = no_place files name 0 (sym (position_from-zero (is_named name) files) ∙ e)
 

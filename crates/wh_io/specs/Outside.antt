@@ -1,7 +1,7 @@
 -- What a shelf and a sink may answer (ours). Where one tells nothing of its bytes, `None` stands for them.
 use Rattle.std.specs.Prelude.{◌≡◌, ℕ, ◌+◌, ◌-◌, ◌^◌, ◌<◌, ◌≤◌, min, ◌⊎◌, List, ◌++◌, length, take, drop, Option, Some, Result, Ok, Err, OnOk, OnErr}
 
--- one more, up to the last number of 64 bits
+-- a count with one more, up to the last number of 64 bits
 abbrev pub counted : ℕ → ℕ
 counted n = min (n + 1) (2 ^ 64 - 1)
 

@@ -1,4 +1,4 @@
--- What reading a file piece by piece gives (ours).
+-- Reading a file piece by piece: the state of a reader of pieces, and what its answers say of the file's bytes (ours).
 use Rattle.std.specs.Prelude.{◌≡◌, ℕ, ◌+◌, ◌<◌, ◌≤◌, List, length, take, drop, Option, Some, Result, Ok, Err}
 use Rattle.wh_io.specs.declared.next.Next.{Next}
 use Rattle.wh_io.specs.declared.next.Next.TheVariants.{Bytes, End}
@@ -20,8 +20,9 @@ answer_of Whole = Ok End
 answer_of TooLong = Err fault.TooLong
 answer_of Failed = Err fault.Failed
 
--- the first answers of a file whose bytes are told, where so many were given before: bytes are those that come next;
--- the end comes where all were given; the file is too long only where it has more bytes than the limit
+-- one answer of a reader of pieces about a file whose bytes are told, where `given` of its bytes were given before:
+-- bytes are the next ones; the end comes where all were given; the file is too long only where it has more bytes than
+-- the limit
 abbrev pub GivesPiece : List ℕ → ℕ → ℕ → List ℕ → Result Next ReadFault → Type 0
 GivesPiece file limit given into (Ok (Bytes n)) = (take n into ≡ take n (drop given file)) × (given + n ≤ length file)
 GivesPiece file limit given into (Ok End) = length file ≤ given

@@ -1,4 +1,4 @@
--- What reading a whole file gives, and why it does not (ours).
+-- Reading a whole file: which bytes the answer has, and when each fault comes (ours).
 use Rattle.std.specs.Prelude.{◌≡◌, ℕ, ◌<◌, ◌≤◌, List, length, Result, Ok, Err}
 use Rattle.wh_types.specs.declared.want.Or.{Or}
 use Rattle.wh_types.specs.declared.want.Or.TheVariants.{NoMemory, Because}

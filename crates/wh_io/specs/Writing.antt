@@ -1,4 +1,4 @@
--- What writing a whole text does (ours).
+-- Writing a whole text: what the sink has afterwards, also where a write failed (ours).
 use Rattle.std.specs.Prelude.{◌≡◌, ◌<◌, ℕ, List, ◌++◌, length, Option, Result, Ok, Err}
 use Rattle.wh_io.specs.Outside.{Wrote}
 

@@ -1,16 +1,16 @@
-//! What comes of reading one piece of a file.
+//! The answers of a reader of pieces: the next bytes, the end of the file, or a fault.
 
 ghost use Rattle.std.specs.Prelude.{◌≡◌};
 ghost use Rattle.wh_io.specs.Pieces.{answer_of};
 
 use crate::read::ReadFault;
 
-/// What a piece has.
+/// What the next piece of a file is.
 #[derive(Clone, Copy)]
 pub enum Next {
-    /// So many bytes, at least one. They stand at the front of the buffer.
+    /// This number of bytes, at least one. They stand at the front of the buffer.
     Bytes(usize),
-    /// None: the file ends here.
+    /// There are no more bytes: the file ends here.
     End,
 }
 
@@ -26,7 +26,7 @@ pub enum Ended {
 }
 
 impl Ended {
-    /// The answer that says so.
+    /// The answer that a reader gives once reading has ended in this way: the end, or the fault.
     pub fn answer(self) -> Result<Next, ReadFault>
         ensures { result ≡ answer_of self }
     {

@@ -1,4 +1,5 @@
-//! Reading a file piece by piece, up to a limit.
+//! Reading a file piece by piece, up to a limit. `Pieces::next` asks a shelf for the next bytes and keeps how reading
+//! has ended; `read_whole` is for a file that is wanted as a whole.
 
 ghost use Rattle.std.specs.Prelude.{◌≡◌, ◌≤◌, ◌<◌, ℕ, List, length, Some, None};
 ghost use Rattle.wh_io.specs.Pieces.{PiecesState, GivesPiece, Advances, PieceFaults, answer_of};
@@ -29,7 +30,7 @@ impl Model for Pieces {
 }
 
 impl Pieces {
-    /// Before the first piece of a file of which at most `limit` bytes are wanted.
+    /// The reader before the first piece of a file of which at most `limit` bytes are wanted.
     pub fn new(limit: u64) -> Pieces
         ensures { result ≡ record { limit = limit; given = 0; ended = None } }
     {
@@ -81,7 +82,7 @@ impl Pieces {
         Ok(Next::Bytes(count))
     }
 
-    /// The reading ends here, so.
+    /// Keeps how the reading has ended, and answers with it.
     fn end(&mut self, ended: Ended) -> Result<Next, ReadFault>
         ensures answer { result ≡ answer_of ended }
         ensures state { self.new ≡ record self.old { ended = Some ended } }

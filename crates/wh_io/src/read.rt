@@ -1,7 +1,7 @@
 //! Reading a whole file, up to a limit.
 //!
-//! `read_whole` is the one way in which the program reads. It never asks for more than it takes to
-//! know the answer, so a file with no end is refused as one that is too long.
+//! `read_whole` asks for one byte past the limit at most, which is enough to know that a file is too long, so a file
+//! with no end is refused as one that is too long.
 
 ghost use Rattle.std.specs.Prelude.{◌≡◌, ◌≤◌, ℕ, List, length, Some, IfOk, vec_len};
 ghost use Rattle.wh_io.specs.Reading.{ReadsWhole, FaultsTell};

@@ -1,9 +1,10 @@
-//! A shelf: named files that can be read from any place.
+//! A shelf: named files that can be read from any offset. `FileShelf` has the files of the operating system, and
+//! `MemoryShelf` has files in memory for tests.
 
 ghost use Rattle.std.specs.Prelude.{◌≡◌, ◌≤◌, ℕ, List, Option};
 ghost use Rattle.wh_io.specs.Outside.{ReadsAt, HasCause};
 
-/// A read or a write that failed. Why it did is told to no one.
+/// A read or a write that failed. It does not say why.
 #[derive(Clone, Copy)]
 pub struct Failed;
 

@@ -1,4 +1,5 @@
-//! A sink: a place that bytes are written to, each after those before it.
+//! A sink: a place that bytes are written to, in order. `StdSink` writes to a writer of std, and `MemorySink` keeps the
+//! bytes in memory for tests.
 
 ghost use Rattle.std.specs.Prelude.{ℕ, List, Option};
 ghost use Rattle.wh_io.specs.Outside.{Puts, HasCause};
@@ -12,8 +13,8 @@ pub trait Sink {
 
     ghost faults: { Self → ℕ };
 
-    /// Appends a front part of these bytes. `Ok(n)` says that it has `n` bytes, which is 0 only
-    /// where there are none. `Failed` appended nothing.
+    /// Appends the first bytes of `bytes`, as many as are taken in one call. `Ok(n)` says that `n` bytes were appended,
+    /// which is 0 only where `bytes` is empty. `Failed` says that nothing was appended.
     fn put(&mut self, bytes: &[u8]) -> Result<usize, Failed>
         ensures bytes { Puts (written self.old) (written self.new) bytes.now result }
         ensures cause { HasCause (faults self.old) (faults self.new) result };

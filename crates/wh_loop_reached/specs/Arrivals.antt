@@ -1,4 +1,4 @@
--- Terms that were reached.
+-- Arrivals: terms that a search for loops reached, each with the rule that it started from.
 use Rattle.std.specs.Prelude.{ℕ, ◌≢◌}
 use Rattle.wh_terms.specs.Tree.{Tm}
 use Rattle.wh_terms.specs.Erase.{tm}

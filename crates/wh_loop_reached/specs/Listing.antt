@@ -1,4 +1,4 @@
--- The list of the terms that were reached.
+-- The list of the terms that a search for loops reached, and what is known of its entries.
 use Rattle.std.specs.Prelude.{ℕ, ◌≡◌, ◌≢◌, ◌≤◌, ◌<◌, List, ◌++◌, ◌+◌, length, map, All, AllPairs, Contains, Option, Some, None, slice_get}
 use Rattle.wh_terms.specs.Tree.{Tm}
 use Rattle.wh_terms.specs.Erase.{tm}
@@ -36,7 +36,7 @@ IsListed entries n t = Contains (arrivals entries) (record { start = n; term = t
 abbrev pub ListsAt : List Entry → ℕ → Arrival → Type 0
 ListsAt entries i a = (e : Entry) × (slice_get entries i ≡ Some e) × (arrival_of e ≡ a)
 
--- the entry is known to be reached in at most so many steps, and to end no loop (ours)
+-- the entry is known to be reached in at most `level` steps, and to end no loop (ours)
 pub record IsEntry (d : SystemData) (level : ℕ) (e : Entry) : Type 0 where
   pub low : e.level ≤ level
   pub reached : Reached d.rules e.level e.visit.start (tree e)

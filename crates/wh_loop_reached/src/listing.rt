@@ -1,4 +1,4 @@
-//! The list of the terms that were reached.
+//! The list of the terms that a search for loops reached, with the way to each.
 
 ghost use Rattle.std.specs.Prelude.{◌≡◌, ◌<◌, ◌^◌, ◌+◌, ◌++◌, ◌∷◌, ◌↔◌, ℕ, [], Contains, List, IfOk, OnOk, IsTrue, Some, length, map};
 ghost use Rattle.wh_terms.specs.Erase.{tm};
@@ -28,7 +28,7 @@ pub struct Origin {
 pub struct Entry {
     /// The term, and the rule from whose start it was reached.
     pub visit: Visit,
-    /// It is reached from its start in at most so many steps.
+    /// The term is reached from its start in at most this number of steps.
     pub level: u32,
     /// The step to it; `None` for a start.
     pub origin: Option<Origin>,

@@ -1,4 +1,4 @@
-//! Terms that were reached.
+//! Visits: terms that a search for loops reached, each with the rule that it started from.
 
 use wh_terms::Term;
 use wh_types::List;

@@ -55,7 +55,7 @@ count_last : (ts : RTms) (u : RTm) → term_count (and_last ts u) ≡ suc (term_
 count_last none u = refl
 count_last (more t ts) u = ap suc (count_last ts u)
 
--- the tree is a spine of so many arguments
+-- the tree is a spine of n arguments
 abbrev IsSpineOf : ℕ → RTm → Type 0
 IsSpineOf n (spine h ts at) = term_count ts ≡ n
 IsSpineOf n _ = ⊥

@@ -1,4 +1,4 @@
--- The certificate of a loop that was found.
+-- Certificates of loops that the search found: which start, steps and instance they have.
 use Rattle.std.specs.Prelude.{ℕ, ◌≤◌, length, All}
 use Rattle.wh_terms.specs.Tree.{Tm}
 use Rattle.wh_terms.specs.Typing.{Symbols}

@@ -22,7 +22,7 @@ IsHeaded (fun f) = Unit {0}
 IsHeaded (app t u) = IsHeaded t
 IsHeaded _ = ⊥
 
--- both are one symbol, with as many arguments (ours)
+-- the two terms are one symbol, with equally many arguments (ours)
 abbrev pub SameHead : Tm → Tm → Type 0
 SameHead (fun f) (fun g) = f ≡ g
 SameHead (app t u) (app v w) = SameHead t v
@@ -113,7 +113,7 @@ pub record ArePutsOf (S : Symbols) (table : List (Option Met)) (puts : List Put)
 abbrev pub HasUntyped : Symbols → List (Option Met) → Type 0
 HasUntyped S table = (x : ℕ) × (m : Met) × IsAt table x m × (IsTypedMet S m → ⊥)
 
--- these puts make the tree t the part w (ours)
+-- the puts make the tree t the part w (ours)
 pub record AreInstance (S : Symbols) (t w : Tm) (puts : List Put) : Type 0 where
   pub typed : All (IsPutOver S) puts
   pub increasing : AllPairs IsBelow puts

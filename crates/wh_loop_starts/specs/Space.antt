@@ -16,7 +16,7 @@ pub record InSpace (t : Tm) : Type 0 where
   pub fits : Fits t
   pub small : size t ≤ greatest_searched
 
--- so many steps through such terms lead from the start of the rule number n to the term
+-- `Path rules n k t`: k steps through such terms lead from the start of the rule number n to the term t
 pub data Path (rules : List RewriteRule) (n : ℕ) : ℕ → Tm → Type 0 where
   at_start : {t : Tm} → IsStart rules n t → InSpace t → Path rules n 0 t
   further : {k : ℕ} {t u : Tm} → Path rules n k t → Step rules t u → InSpace u → Path rules n (suc k) u

@@ -1,4 +1,4 @@
-//! The certificate of a loop.
+//! Making the certificate of a loop: `certificate_of` writes a start, steps and an instance as a NO certificate.
 
 ghost use Rattle.std.specs.Prelude.{◌≡◌, ◌<◌, ◌≤◌, ◌^◌, ℕ, All, IfOk, length, map};
 ghost use Rattle.wh_terms.specs.Erase.{tm};

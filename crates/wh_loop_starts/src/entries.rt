@@ -1,4 +1,4 @@
-//! What is put for the variables of a start.
+//! The terms that are put for the variables of a start, so that it becomes a given part.
 
 ghost use Rattle.std.specs.Prelude.{◌≡◌, ◌≤◌, [], IfOk, MatchBool, MatchOption, length};
 ghost use Rattle.wh_types.specs.Limits.{most_metas};
@@ -96,8 +96,8 @@ fn typed_entries(
     Ok(Some(entries))
 }
 
-/// What has to be put for the variables of the start, so that it becomes the part; `None` comes exactly where nothing
-/// typed does it.
+/// The terms to put for the variables of the start, so that it becomes the part; `None` comes exactly where no typed
+/// terms do.
 pub fn instance_of<'a>(
     alloc: Global,
     signature: &Signature,

@@ -1,4 +1,4 @@
-//! Instances of a start in a term.
+//! Instances of a start in a term, at any position.
 
 ghost use Rattle.std.specs.Prelude.{◌≡◌, Some, IfOk, OnOk, MatchOption, All, ◌<◌, ◌++◌, ◌∷◌, []};
 ghost use Rattle.wh_terms.specs.Erase.{tm, symbols};
@@ -22,10 +22,10 @@ use wh_terms::{Path, Signature, SubstEntry, Term, opened_at};
 /// An instance of a term in another one.
 #[derive(Drop)]
 pub struct Instance {
-    /// The place where it stands; the binders that are passed on the way to it are opened by variables above those of
-    /// the first term.
+    /// The position of the instance. The binders on the way to it are opened by variables above those of the first
+    /// term.
     pub at: Path,
-    /// What is put for variables of the first term, by increasing numbers.
+    /// The terms that are put for variables of the first term, by increasing numbers.
     pub puts: Vec<SubstEntry>,
 }
 
@@ -151,7 +151,7 @@ fn instance_in(
     Ok(found)
 }
 
-/// An instance of the start in the term; `None` comes exactly where there is none at any place.
+/// An instance of the start in the term; `None` comes exactly where no position has one.
 pub fn find_instance(
     alloc: Global,
     system: &System,

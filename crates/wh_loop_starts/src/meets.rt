@@ -1,4 +1,4 @@
-//! A start beside a part of a term: what stands in the part where the start has its variables.
+//! A start laid beside a part of a term: which parts stand where the start has its variables.
 
 ghost use Rattle.std.specs.Prelude.{◌≡◌, ◌↔◌, ◌<◌, ◌≤◌, IsTrue, MatchBool, length};
 ghost use Rattle.std.specs.Bool.{OnTrue};
@@ -21,7 +21,7 @@ pub struct Met<'a> {
     pub value: &'a Term,
 }
 
-/// Whether both are one symbol, with as many arguments.
+/// Whether the two terms are one symbol, with equally many arguments.
 pub fn has_same_head(start: &Term, part: &Term) -> bool
     ensures { IsTrue result ↔ SameHead (tm start.now) (tm part.now) }
 {

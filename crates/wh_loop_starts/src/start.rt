@@ -1,4 +1,4 @@
-//! The terms that the search for loops begins at.
+//! Starts: the terms that the search for loops begins at.
 
 ghost use Rattle.std.specs.Prelude.{◌≡◌, ◌<◌, IfOk, length};
 ghost use Rattle.wh_types.specs.Erase.{ty, tys};

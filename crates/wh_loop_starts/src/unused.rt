@@ -1,4 +1,4 @@
-//! Numbers above those of a term's free variables.
+//! Numbers above those of a term's free variables, for variables that open binders.
 
 ghost use Rattle.std.specs.Prelude.{◌≡◌, ◌≤◌};
 ghost use Rattle.wh_types.specs.Limits.{most_metas};

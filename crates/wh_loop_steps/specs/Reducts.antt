@@ -1,4 +1,4 @@
--- What one step leads to.
+-- The answers of one step of a term: its result, if that fits and is small.
 use Rattle.std.specs.Prelude.{◌≡◌, ◌≤◌, List, Option, Some, None}
 use Rattle.wh_types.specs.Limits.{greatest_searched}
 use Rattle.wh_terms.specs.Tree.{Tm}

@@ -1,4 +1,4 @@
--- Lists that have every step of a term.
+-- Lists that have every step of a term, and tables of rules by symbol.
 use Rattle.std.specs.Prelude.{ℕ, ◌≡◌, List, ◌++◌, Contains, Option, Some, slice_get}
 use Rattle.wh_terms.specs.Tree.{Tm, fun, head}
 use Rattle.wh_terms.specs.Rules.{RewriteRule}

@@ -29,7 +29,7 @@ pub fn head_symbol(term: &Term) -> Option<u32>
     }
 }
 
-/// The same path, owned.
+/// An owned copy of the path.
 pub fn path_of(alloc: Global, way: &[u8]) -> Result<Path, AllocError>
     requires { IsPath way.now }
     ensures { IfOk result (λ path. path ≡ way.now) }

@@ -1,4 +1,4 @@
-//! One step of a term, if its result fits and is small.
+//! One step of a term, if its result fits and is small. The search for loops goes through such terms alone.
 
 ghost use Rattle.std.specs.Prelude.{IfOk};
 ghost use Rattle.wh_terms.specs.Typing.{Symbols};

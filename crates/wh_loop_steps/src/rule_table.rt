@@ -1,4 +1,4 @@
-//! The rules of each symbol.
+//! The table of the rules of each symbol, so that a step tries only the rules of the symbol that heads its redex.
 
 ghost use Rattle.std.specs.Prelude.{◌≡◌, ◌<◌, ◌^◌, ℕ, IfOk, OnOk, length};
 ghost use Rattle.wh_terms.specs.Tree.{fun, head};

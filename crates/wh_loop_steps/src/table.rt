@@ -1,4 +1,4 @@
-//! Numbers listed under keys.
+//! Tables of numbers that are listed under keys.
 
 ghost use Rattle.std.specs.Prelude.{◌≡◌, ◌<◌, Some, IfOk, OnOk, length, slice_get};
 ghost use Rattle.wh_loop_steps.specs.Tables.{HasNumber, KeepsNumbers};
@@ -22,7 +22,7 @@ impl Model for Table {
 }
 
 impl Table {
-    /// So many rows without numbers.
+    /// `count` rows without numbers.
     pub fn new(alloc: Global, count: usize) -> Result<Table, AllocError>
         ensures { IfOk result (λ table. length table ≡ count) }
     {

@@ -1,4 +1,4 @@
--- Matching a pattern against a term.
+-- Matching: `IsMatch` says that a meta-substitution makes a pattern a term, and that it is the only one.
 use Rattle.std.specs.Prelude.{ℕ, ◌≡◌, ◌≢◌, ◌↔◌, List, All, AllPairs}
 use Rattle.wh_terms.specs.Tree.{Tm}
 use Rattle.wh_terms.specs.Measures.{Manageable}

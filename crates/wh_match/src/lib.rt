@@ -1,4 +1,4 @@
-//! Patterns, and matching a term with one.
+//! Patterns, the left sides of rules, and matching a term with one: `is_pattern` and `match_pattern`.
 #![tactic(auto)]
 
 mod matching;

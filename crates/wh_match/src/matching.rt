@@ -79,7 +79,8 @@ fn match_under(
     }
 }
 
-// The same for a meta-variable at its seat.
+// Goes on with the match at a meta-variable on its arguments: takes the part of the term that stands there for its
+// body, or compares the part with the body that was found before.
 fn match_meta(
     alloc: Global,
     variable: u32,

@@ -18,8 +18,8 @@ use wh_terms::Term;
 /// Whether the term is a pattern: a meta-variable applied to distinct bound variables, an abstraction over a pattern,
 /// or a symbol or bound variable with patterns as its arguments.
 ///
-/// The bound variables of one argument list are compared in pairs. Where a term fits there are at most 32 of them in a
-/// list of a declared meta-variable; longer lists get a true answer too, in time quadratic in their length.
+/// The bound variables of one argument list are compared two by two. Where a term fits, there are at most 32 of them in
+/// a list of a declared meta-variable; longer lists get a true answer too, in time quadratic in their length.
 pub fn is_pattern(term: &Term) -> bool
     requires { Manageable (tm term.now) }
     ensures { IsTrue result ↔ IsPattern (tm term.now) }

@@ -75,7 +75,7 @@ pub fn is_placed(seat: &Seat<'_>, body: &Term, term: &Term, inner: u32) -> Resul
     }
 }
 
-// The same for lists, term by term.
+// Whether each term of `parts` is the body in its place in `bodies` at the seat, and there are as many of both.
 #[cycle(placed)]
 fn are_placed(
     seat: &Seat<'_>,
@@ -122,7 +122,8 @@ fn origin(seat: &Seat<'_>, number: u32) -> Result<Option<u32>, AllocError>
     Ok(None)
 }
 
-// The same from below `inner` binders of the body, whose own variables stay.
+// The loose variable of the body that stands at the seat as this bound variable of the term, where both are counted
+// from below `inner` binders of the body, whose own variables stay. None: no body has this variable there.
 #[tactic(auto, using(wh_terms::proofs::UnderLemmas::ups_low, crate::proofs::SeatLemmas::from_there))]
 fn source(seat: &Seat<'_>, number: u32, inner: u32) -> Result<Option<u32>, AllocError>
     requires { AllBoundBelow seat.now.depth (tms seat.now.args.now) }
@@ -183,7 +184,7 @@ pub fn body_of(
     }
 }
 
-// The same for each argument of a meta-variable.
+// The bodies that stand at the seat as the arguments of a meta-variable, one for each; None if one has none.
 #[cycle(body)]
 fn bodies_of(
     alloc: Global,

@@ -1,4 +1,4 @@
--- What entries of a substitution stand for.
+-- The terms for variables that entries of a substitution stand for.
 use Rattle.std.specs.Prelude.{List, Option, Some, None, map}
 use Rattle.wh_types.specs.Erase.{ty}
 use Rattle.wh_terms.specs.Erase.{tm}

@@ -1,8 +1,9 @@
--- Numbers above all free variables.
+-- A number above the numbers of all free variables of a tree.
 use Rattle.std.specs.Prelude.{ℕ, ◌+◌, max}
 use Rattle.wh_terms.specs.Tree.{Tm, free, meta, lam, app, Tms, none, more}
 
--- one more than the greatest number of a free variable in the tree, or 0 where it has none (ours)
+-- a number above all free variables: one more than the greatest number of one in the tree, or 0 where it has none
+-- (ours)
 abbrev mutual
   pub first_unused : Tm → ℕ
   first_unused (free x a) = x + 1

@@ -1,4 +1,4 @@
--- When a NO certificate is valid.
+-- `IsValid`: when the claim of a NO certificate is valid. Its term leads to one that holds an instance of it: a loop.
 use Rattle.std.specs.Prelude.{ℕ, ◌<◌, ◌≡◌, List, [], length, Some, All, AllPairs}
 use Rattle.wh_types.specs.Ty.{SortsBelow}
 use Rattle.wh_terms.specs.Tree.{Tm, bound}
@@ -11,7 +11,7 @@ use Rattle.wh_step.specs.Replay.{Replays}
 use Rattle.wh_no.specs.Claim.{Put, Claim, put_for}
 use Rattle.wh_no.specs.Unused.{first_unused}
 
--- what is put is a well-typed term of the type of its variable, whose sorts are sorts of the symbols S (ours)
+-- the put is a well-typed term of the type of its variable, whose sorts are sorts of the symbols S (ours)
 pub record IsPutOver (S : Symbols) (p : Put) : Type 0 where
   pub sorts_are_there : SortsBelow S.sorts p.kind
   pub typed : Typed S [] [] p.value p.kind
@@ -30,7 +30,7 @@ HoldsInstance t puts at u = opened_part_at (first_unused t) at u ≡ Some (act b
 pub record IsValid (S : Symbols) (rules : List RewriteRule) (c : Claim) : Type 0 where
   -- the term is well typed: it has no loose variable and no meta-variable
   pub typed : WellTyped S c.term
-  -- and it fits
+  -- the term fits
   pub fits : Fits c.term
   -- there is at least one step
   pub some_step : 0 < length c.steps

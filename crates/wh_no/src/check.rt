@@ -1,4 +1,4 @@
-//! The check of a NO certificate.
+//! The check of a NO certificate. `check_no` is the main function.
 
 ghost use Rattle.std.specs.Prelude.{IfOk, OnOk};
 ghost use Rattle.wh_types.specs.Outcome.{MatchOr, IfBecause};
@@ -32,7 +32,7 @@ pub struct AcceptedNo {
     pub steps: u32,
 }
 
-/// The term that a raw term stands for, if it fits. The fault is that there is none.
+/// The term that a raw term stands for, if it fits; the fault says that there is no such term.
 pub fn check_term(
     alloc: Global,
     system: &System,

@@ -1,4 +1,4 @@
-//! Why a NO certificate is refused.
+//! The faults of NO certificates: why one is refused.
 
 /// The first condition of a valid certificate that is false. Indices count from 0.
 #[derive(Clone, Copy)]
@@ -11,9 +11,9 @@ pub enum NoFault {
     StepFails { index: u32 },
     /// The result of this step is the first that does not fit.
     TooBig { index: u32 },
-    /// This line of what is put for a variable is the first whose names stand for nothing, whose term has another type
-    /// than its variable, or whose number is not above the one before.
+    /// This line of a term that is put for a variable is the first whose names stand for nothing, whose term has
+    /// another type than its variable, or whose number is not above the one before.
     BadPut { index: u32 },
-    /// There is no such place in the last term, or what stands there is not the instance.
+    /// The last term has no such position, or the part that stands there is not the instance.
     NoInstance,
 }

@@ -1,4 +1,4 @@
-//! Whether the last term holds an instance of the first one.
+//! Whether the last term of a NO certificate holds the instance of its first term.
 
 ghost use Rattle.std.specs.Prelude.{◌≡◌, ◌↔◌, ◌≤◌, ◌+◌, IsTrue, All, AllPairs};
 ghost use Rattle.wh_types.specs.Limits.{greatest_number};
@@ -54,8 +54,8 @@ fn is_instance(term: &Term, part: &Term, entries: &[SubstEntry]) -> bool
     }
 }
 
-/// Whether what stands at the place in the last term, with passed binders opened by variables above those of the first
-/// term, is the first term with these entries for its free variables.
+/// Whether the part at the position in the last term is the first term with these entries for its free variables. On
+/// the way to the part, binders are opened by variables above those of the first term.
 pub fn check_instance(
     alloc: Global,
     term: &Term,

@@ -1,4 +1,4 @@
-//! Laws of valid claims, each the contract of a function that does nothing.
+//! Laws of loops: the term of a valid claim has reductions of every length, and a certificate has one first fault.
 
 ghost use Rattle.std.specs.Prelude.{◌≡◌, ◌⊎◌, ℕ, List};
 ghost use Rattle.wh_terms.specs.Typing.{Symbols};

@@ -1,4 +1,4 @@
-//! What a certificate puts for variables.
+//! The terms that a NO certificate puts for variables, as a substitution.
 
 ghost use Rattle.std.specs.Prelude.{◌≡◌, ◌↔◌, ◌≤◌, ◌<◌, ◌+◌, ◌^◌, ℕ, List, [], Some, IfOk, IsTrue, MatchBool, length, map, slice_get};
 ghost use Rattle.wh_types.specs.Outcome.{MatchOr};

@@ -1,4 +1,4 @@
-//! What is put for a variable, among entries with increasing numbers.
+//! The search for the term that is put for a variable, among entries with increasing numbers.
 
 ghost use Rattle.std.specs.Prelude.{◌≡◌, ◌↔◌, ◌<◌, ◌≤◌, ℕ, Some, IsTrue, length, slice_get, AllPairs, MatchOption};
 ghost use Rattle.wh_types.specs.Erase.{ty};
@@ -39,7 +39,7 @@ fn is_for(entry: &SubstEntry, number: u32, kind: &SimpleType) -> bool
     entry.number == number && same_type(&entry.kind, kind)
 }
 
-/// What the entries put for the variable of that number and type.
+/// The term that the entries put for the variable of that number and type.
 pub fn value_for<'a>(entries: &'a [SubstEntry], number: u32, kind: &SimpleType) -> Option<&'a Term>
     requires { AllPairs IsBelow (entry_puts entries.now) }
     ensures { MatchOption result

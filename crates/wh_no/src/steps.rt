@@ -1,4 +1,4 @@
-//! The steps of a certificate.
+//! The steps of a NO certificate, replayed.
 
 ghost use Rattle.std.specs.Prelude.{◌<◌, ◌^◌, length};
 ghost use Rattle.wh_types.specs.Outcome.{MatchOr};

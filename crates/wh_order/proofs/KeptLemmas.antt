@@ -135,7 +135,7 @@ pub mark_end : (ms : List MarkFilter) (i f : ℕ) → length ms ≤ i
     → mark_among (map mark_filter ms) f ≡ mark_among (map mark_filter (drop i ms)) f → mark_among (map mark_filter ms) f ≡ unfiltered
 mark_end ms i f past before = before ∙ ap (λ (xs : List MarkFilter). mark_among (map mark_filter xs) f) (drop_past ms i past)
 
--- the trees at places, counted from 1, where so many trees and the places before have passed
+-- the trees of a list at some places, counted from 1, where k trees and the places up to k have passed
 
 abbrev pub merged : ℕ → List ℕ → List Tree → List Tree
 merged k [] qs = []

@@ -28,7 +28,7 @@ use Rattle.wh_order.specs.Claims.{HoldsGoals, AreSymbolGoals, AreAboveGoals}
 use Rattle.wh_order.proofs.LetterTasks.{lower_other, lower_not, lower_is, less_other, less_not, less_short_left, less_short_right, less_differ, less_is, spine_none, spine_is, body_none, body_is, meta_none, meta_no_item, meta_other, meta_is, above_none, above_symbol}
 use Rattle.wh_order.proofs.LetterLemmas.{may, asks_nothing, asks, other_head, items_back}
 
--- the precedence of the symbol that heads a tree, where there are so many symbols
+-- the precedence of the symbol that heads a tree, under the filters
 abbrev pub HasOrder : FilteringData → Tree → Option ℕ → Type 0
 HasOrder D t r = (w : World) → Over (length D.symbols) w t → HeadOrder D (tree (length D.symbols) t) r
 

@@ -1,4 +1,4 @@
--- The number of a bad inference.
+-- The number of the bad inference that a fault of the check names.
 use Rattle.std.specs.Prelude.{ℕ}
 use Rattle.wh_order.specs.declared.check.BadInference.{BadInference}
 

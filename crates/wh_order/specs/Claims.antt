@@ -1,4 +1,4 @@
--- What an inference is for, as the code has it.
+-- The goals of the program as tasks: what a claim about two trees of the program says.
 use Rattle.std.specs.Prelude.{ℕ, ◌+◌, ◌≡◌, List, [], ◌∷◌, map, Option, Some, None, Result}
 use Rattle.std.specs.Global.{Vec}
 use Rattle.wh_types.specs.declared.want.Or.{Or}

@@ -19,7 +19,7 @@ AreAt [] qs [] = Unit {0}
 AreAt (i ∷ is) qs (t ∷ ts) = (slice_get qs i ≡ Some t) × AreAt is qs ts
 AreAt _ qs _ = ⊥
 
--- this is what the filter leaves of a symbol with the arguments qs: some of them, or one in the place of the symbol
+-- the filter leaves this of a symbol with the arguments qs: some of them, or one in the place of the symbol
 abbrev pub IsLeft : WrittenFilter → List Tree → Kept → Type 0
 IsLeft (keeps p places) qs (Arguments ts) = AreAt (map (λ n. n - 1) places) qs ts
 IsLeft (picks place) qs (Instead t) = slice_get qs (place - 1) ≡ Some t

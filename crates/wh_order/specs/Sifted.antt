@@ -26,7 +26,7 @@ abbrev mutual
 abbrev pub AreOverFiltered : Symbols → List RewriteRule → FilteringData → List Declared → List Tree → Type 0
 AreOverFiltered S rules D M us = EachOver (length S.funs) (filtered_signature S rules D) (collapsed M) us
 
--- and they stand for these trees
+-- each tree of the program is over the signature of filtered trees, and they stand for the trees ts
 pub record AreTreesOf (S : Symbols) (rules : List RewriteRule) (D : FilteringData) (M : List Declared) (ts : List Tm) (us : List Tree) : Type 0 where
   pub same_trees : trees (length S.funs) us ≡ ts
   pub over : AreOverFiltered S rules D M us
@@ -36,7 +36,7 @@ abbrev pub IsSifted : FilteringData → List Declared → Tm → List Tree → T
 IsSifted D M t qs u = (S : Symbols) (rules : List RewriteRule) → AreFilters S rules D → IsWhole S (length qs) t → AreOverFiltered S rules D M qs
     → IsTreeOf S rules D M (sift (filters_of S D) t (trees (length S.funs) qs)) u
 
--- and so the trees us are those of ts
+-- the trees us are the filtered trees of ts, for all symbols and rules that the filters are for
 abbrev pub AreSifted : FilteringData → List Declared → List Tm → List Tree → Type 0
 AreSifted D M ts us = (S : Symbols) (rules : List RewriteRule) → AreFilters S rules D → AreWhole S (tms_of ts)
     → AreTreesOf S rules D M (map (λ t. sift (filters_of S D) t []) ts) us

@@ -41,7 +41,7 @@ IsTreeOfSide S rules D r right u = IsTreeOf S rules D (extended_metas S r) (filt
 abbrev pub extended_pair_side : Symbols → PairData → Bool → Tm
 extended_pair_side S p right = extended_call S p.metas (head_of_side p right) (list_of_side p right)
 
--- and filtered
+-- u is the right or the left side of a pair, extended and filtered
 abbrev pub IsTreeOfCall : Symbols → List RewriteRule → FilteringData → PairData → Bool → Tree → Type 0
 IsTreeOfCall S rules D p right u =
     IsTreeOf S rules D p.metas (filtered_call S (filters_of S D) p.metas (head_of_side p right) (list_of_side p right)) u

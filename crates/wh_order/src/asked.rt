@@ -1,4 +1,4 @@
-//! What an inference asks for: the claims that its parts are for.
+//! The claims that an inference asks for: `goals_of` answers with one for each of its parts.
 
 ghost use Rattle.std.specs.Prelude.{ℕ, ◌≡◌, ◌↔◌, IfOk, IsTrue, length};
 ghost use Rattle.wh_order_inference.specs.Inferences.{Inferences, arguments, bodies, same_trees};
@@ -17,8 +17,8 @@ use wh_order_node::Filters;
 use wh_order_trees::{application_of, body_of, have_one_type, same_tree};
 use wh_types::{same_type, sum};
 
-/// What the parts of an inference with this letter, this place and these parts are for, where it is for the goal.
-/// `None` where the letter is not for that, its condition fails, or it compares trees of two types.
+/// The goals of the parts of an inference with this letter, this place and these parts, where it is for the goal.
+/// `None` where the letter is not for that goal, its condition fails, or the inference compares trees of two types.
 pub fn goals_of<'a>(
     alloc: Global,
     filters: &Filters,
@@ -96,7 +96,8 @@ fn typed_goals<'a>(
     let Some(goals) = greater_goals(alloc, filters, two, letter, place, parts)? else {
         return Ok(None);
     };
-    // To compare types they have to be made, which is dear: that is done only where the letter asks for something.
+    // To compare types they have to be made, which takes long: so they are made only where the letter asks for
+    // something.
     let alike = have_one_type(alloc, two.left, two.right)?;
     if alike { Ok(Some(goals)) } else { Ok(None) }
 }

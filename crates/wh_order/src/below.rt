@@ -1,4 +1,4 @@
-//! Meta-variables below abstractions over all their arguments.
+//! The test for a meta-variable below abstractions over all its arguments, which the letter `z` asks.
 
 ghost use Rattle.std.specs.Prelude.{ℕ, ◌≡◌, ◌+◌};
 ghost use Rattle.wh_terms.specs.Tree.{bound, tms_of};

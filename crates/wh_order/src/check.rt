@@ -1,4 +1,4 @@
-//! The check of an inference for two filtered trees.
+//! The check of an inference for two filtered trees. `check_inference` goes through the inference in preorder.
 
 ghost use Rattle.std.specs.Prelude.{◌≡◌, List, None, Some, length, map};
 ghost use Rattle.wh_types.specs.Outcome.{MatchOr};
@@ -25,7 +25,7 @@ use wh_types::{Or, sum};
 /// The first inference of a line that is not good for what it is for.
 #[derive(Clone, Copy)]
 pub struct BadInference {
-    /// Its number, counted in preorder from 0.
+    /// The number of the inference, counted in preorder from 0.
     pub at: u32,
 }
 

@@ -46,8 +46,9 @@ pub fn filtered_rule(
     Ok(sift(alloc, filters, side.metas.as_slice(), &side.term)?)
 }
 
-/// The right side of a pair, or its left side, with all arguments and behind the filters (Kop 2012). `Err` as for a
-/// rule.
+/// The right side of a pair, or its left side, with all arguments and behind the filters (Kop 2012).
+///
+/// `Err` comes exactly where the marked symbol with all arguments has more than 65,536 nodes.
 pub fn filtered_pair(
     alloc: Global,
     system: &System,

@@ -1,4 +1,4 @@
-//! Claims about two trees, which inferences are for.
+//! Goals: claims about two trees, which inferences are to show.
 
 ghost use Rattle.std.specs.Prelude.{ℕ, ◌≡◌, ◌∷◌, ◌++◌, [], List, IfOk, OnOk, length};
 ghost use Rattle.wh_order_path.specs.Verdict.{Task, each, pairwise};
@@ -9,7 +9,7 @@ ghost use Rattle.wh_order.specs.Claims.{HoldsGoals, IsGoalOver, StandFor, said, 
 use std::alloc::{AllocError, Global};
 use wh_order_trees::Tree;
 
-/// What is claimed of a left and of a right tree.
+/// A claim about a left and a right tree.
 #[derive(Clone, Copy)]
 pub enum Claim {
     /// The left tree is at least the right one.
@@ -45,7 +45,7 @@ impl Side<'_> {
 /// A claim about two trees, whose free variables have numbers below `next`.
 #[derive(Drop)]
 pub struct Goal<'a> {
-    /// What is claimed.
+    /// The claim.
     pub claim: Claim,
     /// The number for the next variable.
     pub next: u32,

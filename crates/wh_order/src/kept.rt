@@ -1,4 +1,4 @@
-//! What filters leave of symbols with arguments.
+//! What argument filters leave of symbols with arguments.
 
 ghost use Rattle.std.specs.Prelude.{ℕ, ◌+◌, ◌-◌, ◌≡◌, ◌<◌, ◌≤◌, ◌↔◌, All, IsTrue, List, Some, IfOk, length, map, reverse, slice_get};
 ghost use Rattle.wh_types.specs.Ty.{Ty};

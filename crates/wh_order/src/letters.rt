@@ -1,4 +1,4 @@
-//! What each letter asks for where a symbol heads the left tree, which is to be above the right one.
+//! Letters: which goals each letter leaves where a symbol heads the left tree, which is to be above the right one.
 
 ghost use Rattle.std.specs.Prelude.{ℕ, ◌≡◌, IfOk, length};
 ghost use Rattle.wh_terms.specs.Tree.{fun, head};
@@ -24,7 +24,7 @@ use wh_order_trees::{
 };
 use wh_types::sum;
 
-/// What the parts of an inference with this letter and this place are for, where the left tree is to be above the right
+/// The goals of the parts of an inference with this letter and this place, where the left tree is to be above the right
 /// one; `None` where the letter is not for that, or its condition fails.
 pub fn above_goals<'a>(
     alloc: Global,

@@ -1,4 +1,4 @@
-//! Opening the body of an abstraction with a free variable.
+//! Opening the body of an abstraction with a free variable, where abstractions are compared.
 
 ghost use Rattle.std.specs.Prelude.{ℕ, ◌≡◌, IfOk, map};
 ghost use Rattle.wh_types.specs.Erase.{ty};

@@ -1,4 +1,4 @@
-//! The precedence of the symbol that heads a tree.
+//! The precedence of the symbol that heads a tree, as the filters give it.
 
 ghost use Rattle.std.specs.Prelude.{ℕ, ◌≡◌, length};
 ghost use Rattle.wh_order_inference.specs.Said.{written_filter};

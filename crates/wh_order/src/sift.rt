@@ -1,4 +1,4 @@
-//! Terms behind filters.
+//! Filtering: terms become trees behind argument filters. `sift` is the main function.
 
 ghost use Rattle.std.specs.Prelude.{◌≡◌, [], IfOk, map, reverse};
 ghost use Rattle.wh_types.specs.Erase.{ty};
@@ -113,7 +113,8 @@ fn collapse(alloc: Global, kind: &SimpleType) -> Result<SimpleType, AllocError>
     }
 }
 
-// The type of the applications of that meta-variable, read so; where there is none, a sort.
+// The type of the applications of that meta-variable, with all sorts read as one; where there is no such meta-variable,
+// a sort.
 fn collapsed_kind(alloc: Global, metas: &[MetaDecl], meta: u32) -> Result<SimpleType, AllocError>
     ensures { IfOk result (λ a. ty a ≡ out_at (collapsed (declared_metas metas.now)) meta) }
 {

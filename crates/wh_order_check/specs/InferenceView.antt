@@ -1,4 +1,4 @@
--- What the inferences of a node stand for.
+-- The data that the inferences of a node stand for.
 use Rattle.std.specs.Prelude.{map}
 use Rattle.wh_reduction_pairs.specs.ReductionPair.{Evidence}
 use Rattle.wh_order_inference.specs.Inferences.{Inference}

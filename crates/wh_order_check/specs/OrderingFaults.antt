@@ -28,7 +28,7 @@ IsFirstImproper S D f =
     × ((g : ℕ) (b : Ty) (u : WrittenFilter) → g < f → slice_get S.funs g ≡ Some b → slice_get D.symbols g ≡ Some u
     → IsProperAsWritten (arguments b) u)
 
--- and that of its marked symbol is the first of those
+-- the filter of the marked symbol of f is the first that is not proper
 abbrev pub IsFirstImproperMark : Symbols → List RewriteRule → FilteringData → ℕ → Type 0
 IsFirstImproperMark S rules D f =
     (i : ℕ) × (m : MarkFilter) × (slice_get D.marks i ≡ Some m) × (m.symbol ≡ f) × (IsProperAsWritten (marked_types S rules f) m.filter → ⊥)
@@ -51,7 +51,7 @@ narrow_lines S = record { rule = λ r i. HasNarrowSides S r; pair = λ p strict 
 abbrev pub wide_lines : Symbols → Blaming Inference (Unit {0})
 wide_lines S = record { rule = λ r i f. HasNarrowSides S r → ⊥; pair = λ p strict i f. HasNarrowCalls S p → ⊥ }
 
--- then of all inferences that they are good
+-- next it is asked of all inferences that they are good
 abbrev pub good_lines : Symbols → List RewriteRule → FilteringData → Showing Inference
 good_lines S rules D = record { rule = λ r i. IsGoodRule S rules D r i; pair = λ p strict i. IsGoodPair S rules D p i }
 
@@ -65,7 +65,7 @@ bad_lines S rules D = record {
       ≡ Some e;
 }
 
--- and then of those of the dropped pairs that they are not the inference of equal trees
+-- last it is asked of the inferences of dropped pairs that they are not that of equal trees
 abbrev pub strict_lines : Showing Inference
 strict_lines = record { rule = λ r i. Unit {0}; pair = λ p strict i. IsStrictWhere strict i }
 
@@ -106,8 +106,8 @@ module _ (T : TaskData) (D : FilteringData) (E : Evidence Inference) where
   abbrev pub IsFirstWeakPair : ℕ → Type 0
   IsFirstWeakPair n = IsFirstPairFault strict_lines weak_lines T E.of_pairs E.drop n tt
 
-  -- the first thing wrong: a filter, the numbers of lines, the list of dropped pairs; then sides that are too wide,
-  -- those of the rules in order and of the pairs of the set in order; then bad inferences, in this order too; then a
+  -- the first thing wrong: a filter, the numbers of lines, or the list of dropped pairs; then sides that are too wide,
+  -- first of the rules in order and then of the pairs of the set in order; then bad inferences, in that order; then a
   -- dropped pair that does not shrink (ours)
   abbrev pub IsFirstOrderingFault : OrderingFault → Type 0
   IsFirstOrderingFault (BadFilter f false) = IsFirstImproper T.symbols D f

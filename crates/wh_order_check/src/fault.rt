@@ -1,4 +1,4 @@
-//! What can be wrong with a node of a path order.
+//! The faults of a node of a path order: which condition fails first, and at which symbol, rule or pair.
 
 /// What is wrong first with a node of a path order on a set of pairs, once its names are looked up. Symbols, rules and
 /// pairs are told by their numbers.

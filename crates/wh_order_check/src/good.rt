@@ -1,4 +1,4 @@
-//! Whether all inferences are good.
+//! The test that the inferences of all rules and pairs are good.
 
 ghost use Rattle.std.specs.Prelude.{◌≡◌, ◌<◌, ℕ, All, Contains, IfOk, List, None, OnOk, Some, length, map, slice_get, true};
 ghost use Rattle.wh_types.specs.Outcome.{IfBecause, MatchOr};

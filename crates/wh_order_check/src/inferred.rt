@@ -1,4 +1,4 @@
-//! The lines of inferences of a node of a path order.
+//! The evidence of a node of a path order: its inferences, and the pairs that it drops.
 
 use wh_order_inference::Inference;
 

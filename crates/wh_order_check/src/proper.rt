@@ -1,4 +1,4 @@
-//! Whether the filters of symbols and of marked symbols are proper.
+//! The test that the filters of symbols and of marked symbols are proper.
 
 ghost use Rattle.std.specs.Prelude.{◌≡◌, ◌↔◌, ◌<◌, ◌-◌, ◌^◌, ℕ, All, IfOk, IsTrue, MatchOption, length, map};
 ghost use Rattle.wh_types.specs.Erase.{ty};
@@ -68,7 +68,7 @@ fn is_proper(kind: &SimpleType, filter: &Filter) -> bool
     }
 }
 
-// Whether the places, which are counted from 1, are strictly increasing and at most so many.
+// Whether the places, which are counted from 1, are strictly increasing and at most `arity`.
 fn are_increasing(places: &[u32], arity: u32) -> bool
     ensures { IsTrue result ↔ (All (λ n. 0 < n) places.now × IncreasingFrom 0 arity (map (λ n. n - 1) places.now)) }
 {

@@ -1,4 +1,4 @@
-//! Whether each dropped pair shrinks: its line is not that of equal trees.
+//! The test that each dropped pair shrinks: its inference is not that of equal trees.
 
 ghost use Rattle.std.specs.Prelude.{◌≡◌, ◌↔◌, ℕ, IsTrue, OnOk, length, map};
 ghost use Rattle.std.specs.List.Sorted.{IsNonDecreasing};

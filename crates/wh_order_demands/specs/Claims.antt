@@ -42,7 +42,7 @@ module _ (Φ : ℕ → Filter) where
     pub next : ℕ
     pub shown : IsShown (precedences Φ) (record { claim = greater; next = next; left = behind s; right = behind t })
 
-  -- it is above the right one, whatever binders were passed
+  -- behind the filters the left tree is above the right one, whatever binders were passed
   pub record IsAbove (s t : Tm) : Type 0 where
     pub kept : IsKept s
     pub from : ℕ

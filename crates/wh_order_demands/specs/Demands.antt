@@ -1,4 +1,4 @@
--- When bits meet a demand.
+-- `holds`: whether bits meet a demand.
 use Rattle.std.specs.Prelude.{ℕ, Bool, true, false, ◌&&◌, ◌||◌, not}
 use Rattle.wh_order_demands.specs.declared.demand.Demand.{Demand}
 use Rattle.wh_order_demands.specs.declared.demand.Demand.TheVariants.{Always, Never, Bit, NoBit, Both', Either'}

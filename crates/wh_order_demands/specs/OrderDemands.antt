@@ -1,4 +1,4 @@
--- Demands that the bits of every order meet.
+-- Demands that the bits of every order meet, whatever the order is.
 use Rattle.std.specs.Prelude.{ℕ, ◌+◌, ◌≡◌, ◌<◌, Bool, true, false, not, nat_lt, List, Option, None, Some}
 use Rattle.wh_order_inference.specs.Filters.{Filter}
 use Rattle.wh_order_extended.specs.Filtered.{precedences}
@@ -20,11 +20,11 @@ IsBitBetween spots f g (Some x) = (v : ℕ → Bool) (Φ : ℕ → Filter) → S
 abbrev pub IsFilterDemand : Spot → Demand → Type 0
 IsFilterDemand spot demand = (v : ℕ → Bool) (φ : Filter) → Says v spot.first spot.places φ → holds v demand ≡ true
 
--- the same of a symbol that may have bits; where it has none they are met
+-- wherever the bits of a symbol say its filter, they meet the demand; where it has no bits, all bits do
 abbrev pub IsItemDemand : Option Spot → Demand → Type 0
 IsItemDemand None demand = (v : ℕ → Bool) → holds v demand ≡ true
 IsItemDemand (Some spot) demand = IsFilterDemand spot demand
 
--- where none of so many bits is set, they meet the demand
+-- where none of `count` bits from `first` on is set, they meet the demand
 abbrev pub IsNoneSet : (first count : ℕ) → Demand → Type 0
 IsNoneSet first count demand = (v : ℕ → Bool) → ((i : ℕ) → i < count → v (first + i) ≡ false) → holds v demand ≡ true

@@ -18,12 +18,12 @@ compared s f x g y ss ts =
     if f == g then same_symbol (pair_parts x x claim.Greater ss ts)
     else other_symbol (length ts + y) (length ts) (order_bit (length ss) x g) (order_bit (length ts) y f) (right_parts y y claim.PartGreater s ts)
 
--- what is asked where the left tree is above the right one: the left symbol picks nothing, and all arguments on the
--- right
+-- the condition of a left tree above a right one, part by part: the left symbol picks nothing, the left tree is above
+-- each argument on the right, and the symbols compare
 abbrev pub all_above : Tm → (f x g y : ℕ) → (ss ts : List Tm) → AllData
 all_above s f x g y ss ts = record { first = length ss + x; count = length ss; parts = right_parts y (length ts + y) claim.Above s ts; order = compared s f x g y ss ts }
 
--- and where one symbol heads both and they are equal
+-- the condition of two equal trees that one symbol heads, part by part
 abbrev pub all_equal : (x : ℕ) → (ss ts : List Tm) → AllData
 all_equal x ss ts = record { first = 0; count = 0; parts = pair_parts x (length ss + x) claim.Equal ss ts; order = free }
 

@@ -1,4 +1,4 @@
--- What a claim about two trees asks of their parts.
+-- Plans: what a claim about two trees asks of their parts, so that it can hold.
 use Rattle.std.specs.Prelude.{ℕ, suc, ◌+◌, ◌≡◌, ◌<◌, ◌⊎◌, ◌||◌, Bool, true, false, List, [], ◌∷◌, map, Option, None, Some, slice_get}
 use Rattle.wh_terms.specs.Tree.{Tm, meta, none}
 use Rattle.wh_terms.specs.Erase.{tm}
@@ -85,7 +85,7 @@ all_data (Some a) = Some (whole_data a)
 abbrev pub plan_data : Plan → PlanData
 plan_data p = record { some = parts_data p.some.items; all = all_data p.all }
 
--- one of so many bits is set
+-- one of `count` bits from `first` on is set
 abbrev pub SomeSet : (ℕ → Bool) → (first count : ℕ) → Type 0
 SomeSet v first count = (i : ℕ) × (i < count) × (v (first + i) ≡ true)
 
@@ -148,7 +148,7 @@ abbrev pub IsPlan : List (Option Spot) → Claim → Tm → Tm → Option Plan �
 IsPlan spots c s t None = Unit {0}
 IsPlan spots c s t (Some p) = IsPlanFor spots c s t (plan_data p)
 
--- the same of the claim that s is above t, where some part of a list may be met instead
+-- where s is above t, or some part of the list is met, the plan is met
 abbrev pub IsPlanBeside : List (Option Spot) → List PartData → Tm → Tm → Option Plan → Type 0
 IsPlanBeside spots ps s t None = Unit {0}
 IsPlanBeside spots ps s t (Some p) = (v : ℕ → Bool) (Φ : ℕ → Filter) → SayFilters spots v Φ → IsSomeMet v Φ ps ⊎ Holds Φ claim.Above s t → IsMet v Φ (plan_data p)

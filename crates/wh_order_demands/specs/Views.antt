@@ -1,4 +1,4 @@
--- What heads a tree, and its arguments.
+-- Views of a tree: what heads it, with the bits of that symbol, and its arguments.
 use Rattle.std.specs.Prelude.{ℕ, ◌≡◌, true, List, length, map, Option, None, Some, slice_get}
 use Rattle.std.specs.Borrow.{Bor}
 use Rattle.wh_terms.specs.Tree.{Tm, fun, head}
@@ -19,7 +19,7 @@ pub record IsCallOf (spots : List (Option Spot)) (t : Tm) (symbol x : ℕ) (item
   pub items_are : arguments_of t ≡ items
   pub spot : slice_get spots symbol ≡ Some (Some (record { first = x; places = length items }))
 
--- this heads the tree
+-- the view says what heads the tree
 abbrev pub IsView : List (Option Spot) → Tm → View → Type 0
 IsView spots t (view.Call c) = IsCallOf spots t c.symbol c.first (items_data c.items.items)
 IsView spots t view.Unknown = Unit {0}

@@ -1,4 +1,4 @@
-//! The bits that compare precedences.
+//! The bit that compares the precedences of two symbols.
 
 ghost use Rattle.std.specs.Prelude.{◌≡◌, IfOk};
 ghost use Rattle.wh_order_demands.specs.Claims.{order_bit};

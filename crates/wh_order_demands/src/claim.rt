@@ -1,13 +1,13 @@
-//! Claims.
+//! Claims of the path order about two trees.
 
 /// What is claimed of two trees behind the filters of an order.
 #[derive(Clone, Copy)]
 pub enum Claim {
-    /// They are the same tree.
+    /// The two trees are the same.
     Equal,
     /// The left one is greater.
     Greater,
-    /// They are the same, or the left one is greater.
+    /// The two trees are the same, or the left one is greater.
     AtLeast,
     /// A symbol that keeps its arguments heads the left tree, which is above the right one.
     Above,

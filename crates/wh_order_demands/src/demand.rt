@@ -1,18 +1,18 @@
-//! Demands on bits, as data.
+//! Demands on bits, as data: formulas of bits without negations but at the bits.
 
 /// What bits have to meet.
 #[derive(Drop)]
 pub enum Demand {
     /// Nothing.
     Always,
-    /// It cannot be met.
+    /// The demand cannot be met.
     Never,
     /// The bit with this number is set.
     Bit(u32),
     /// The bit with this number is not set.
     NoBit(u32),
-    /// Both are met.
+    /// The two demands are met.
     Both(Box<Demand>, Box<Demand>),
-    /// One of the two is met, or both.
+    /// At least one of the two demands is met.
     Either(Box<Demand>, Box<Demand>),
 }

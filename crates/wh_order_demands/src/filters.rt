@@ -1,4 +1,4 @@
-//! What the bits meet that write filters, whatever the order is.
+//! What the bits that write filters have to meet, whatever the order is.
 
 ghost use Rattle.std.specs.Prelude.{◌<◌, IfOk};
 ghost use Rattle.wh_order_demands.specs.OrderDemands.{IsFilterDemand, IsItemDemand, IsNoneSet, IsOrderDemand};
@@ -9,10 +9,10 @@ use crate::view::Spot;
 use std::alloc::{AllocError, Global};
 use wh_types::sum;
 
-// Of a symbol with more places nothing is demanded, as there would be too many gates.
+// For a symbol with more places nothing is demanded, as there would be too many gates.
 const MOST_PLACES: u32 = 32;
 
-/// That no symbol picks two places, and none picks a place and keeps one. The bits of every order meet that.
+/// The demand that no symbol picks two places, and none picks a place and keeps one. The bits of every order meet it.
 pub fn demand_of_filters(alloc: Global, spots: &[Option<Spot>]) -> Result<Demand, AllocError>
     ensures { IfOk result (IsOrderDemand spots.now) }
 {
@@ -24,7 +24,7 @@ pub fn demand_of_filters(alloc: Global, spots: &[Option<Spot>]) -> Result<Demand
     Ok(found)
 }
 
-// That of a symbol, if it has bits.
+// The demand of one symbol's filter, where the symbol has bits; else nothing is demanded.
 fn filter_of(alloc: Global, spot: Option<Spot>) -> Result<Demand, AllocError>
     ensures { IfOk result (IsItemDemand spot) }
 {
@@ -34,7 +34,7 @@ fn filter_of(alloc: Global, spot: Option<Spot>) -> Result<Demand, AllocError>
     }
 }
 
-// That of the symbol with these bits.
+// The demand of the filter of the symbol with these bits.
 fn one_filter(alloc: Global, spot: Spot) -> Result<Demand, AllocError>
     ensures { IfOk result (IsFilterDemand spot) }
 {
@@ -62,7 +62,7 @@ fn picked_alone(alloc: Global, spot: Spot, place: u32) -> Result<Demand, AllocEr
     either(alloc, Demand::NoBit(bit), alone)
 }
 
-/// That none of so many bits is set.
+/// The demand that none of `count` bits from `first` on is set.
 pub fn none_of(alloc: Global, first: u32, count: u32) -> Result<Demand, AllocError>
     ensures { IfOk result (IsNoneSet first count) }
 {

@@ -1,4 +1,4 @@
-//! Demands of two.
+//! Two demands joined to one.
 
 ghost use Rattle.std.specs.Prelude.{◌≡◌, ◌&&◌, ◌||◌, ℕ, Bool, IfOk};
 ghost use Rattle.wh_order_demands.specs.Demands.{holds};
@@ -6,7 +6,7 @@ ghost use Rattle.wh_order_demands.specs.Demands.{holds};
 use crate::demand::Demand;
 use std::alloc::{AllocError, Global};
 
-/// That both are met.
+/// The demand that both are met.
 pub fn both(alloc: Global, left: Demand, right: Demand) -> Result<Demand, AllocError>
     ensures { IfOk result (λ made. (v : ℕ → Bool) → holds v made ≡ (holds v left && holds v right)) }
 {
@@ -21,7 +21,7 @@ pub fn both(alloc: Global, left: Demand, right: Demand) -> Result<Demand, AllocE
     }
 }
 
-/// That one of them is met.
+/// The demand that at least one of them is met.
 pub fn either(alloc: Global, left: Demand, right: Demand) -> Result<Demand, AllocError>
     ensures { IfOk result (λ made. (v : ℕ → Bool) → holds v made ≡ (holds v left || holds v right)) }
 {

@@ -1,4 +1,4 @@
-//! Which symbols are compared in a demand.
+//! Which symbols a demand compares: a graph of symbols, from which they are left out one by one.
 
 use crate::between::bit_between;
 use crate::demand::Demand;
@@ -36,7 +36,7 @@ fn bit_count(spots: &[Option<Spot>]) -> Result<u32, AllocError> {
     Ok(count)
 }
 
-/// Which of so many bits the demand names.
+/// For each of `count` bits whether the demand names it.
 pub fn named_bits(alloc: Global, demand: &Demand, count: u32) -> Result<Vec<bool>, AllocError> {
     let mut named = vec![in alloc; false; count as usize]?;
     put_named(demand, &mut named);
@@ -127,7 +127,7 @@ fn count_near(near: &[u32], done: &[bool]) -> usize {
     count
 }
 
-/// Those of these symbols that are not done.
+/// The symbols of the list that are not done.
 pub fn open_near(alloc: Global, near: &[u32], done: &[bool]) -> Result<Vec<u32>, AllocError> {
     let mut list = Vec::new(alloc);
     for symbol in near {

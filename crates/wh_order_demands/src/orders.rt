@@ -1,4 +1,4 @@
-//! What the bits meet that compare precedences, whatever the order is.
+//! What the bits that compare precedences have to meet, whatever the order is.
 
 ghost use Rattle.std.specs.Prelude.{◌≡◌, IfOk};
 ghost use Rattle.wh_order_demands.specs.OrderDemands.{IsBitBetween, IsOrderDemand};
@@ -11,14 +11,14 @@ use crate::view::Spot;
 use std::alloc::{AllocError, Global};
 use wh_types::counted;
 
-// Of more symbols nothing is demanded, as there would be too many gates.
+// For more symbols than this nothing is demanded, as there would be too many gates.
 const MOST_SYMBOLS: usize = 1_000;
 
-// Nor of symbols that are each compared with more.
+// Where each symbol that is left is compared with more symbols than this, nothing more is demanded.
 const MOST_NEAR: usize = 40;
 
-/// That of two symbols one has a precedence that is at least the other's, and that this is passed on from a symbol to
-/// the next, for symbols that are compared in a demand. The bits of every order meet that.
+/// The demand that precedences are an order, for symbols that a demand compares: of two symbols one has a precedence
+/// that is at least the other's, and this is passed on from symbol to symbol. The bits of every order meet it.
 ///
 /// Symbols are left out one by one, the one with the fewest neighbours first, and its neighbours become neighbours of
 /// one another: so what is passed on around a ring of symbols is demanded by three of them at a time (as variables are

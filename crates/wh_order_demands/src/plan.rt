@@ -1,4 +1,4 @@
-//! What a claim about two trees asks of their parts, by what heads them.
+//! Plans: what a claim about two trees asks of their parts, by what heads the trees.
 
 ghost use Rattle.std.specs.Prelude.{◌≡◌, ◌+◌, ◌++◌, ℕ, IfOk, List, OnOk, Option, length, true};
 ghost use Rattle.wh_terms.specs.Erase.{tm};
@@ -22,7 +22,7 @@ use wh_types::{counted, sum};
 pub struct Part<'a> {
     /// A bit: that a place is kept, or that it is picked.
     pub bit: u32,
-    /// Another one; either serves.
+    /// A second bit, which serves as well.
     pub other: u32,
     /// The claim.
     pub claim: Claim,
@@ -32,7 +32,7 @@ pub struct Part<'a> {
     pub right: &'a Term,
 }
 
-/// Parts.
+/// A list of parts.
 pub type Parts<'a> = Vec<Part<'a>>;
 
 /// How two symbols have to compare where they head trees.
@@ -40,7 +40,7 @@ pub type Parts<'a> = Vec<Part<'a>>;
 pub struct Others<'a> {
     /// The first of the bits for the places that the right one may pick.
     pub first: u32,
-    /// How many there are.
+    /// How many bits there are.
     pub count: u32,
     /// The bit that the left one's precedence is at least the right one's.
     pub above: u32,
@@ -55,18 +55,18 @@ pub struct Others<'a> {
 pub enum Order<'a> {
     /// Nothing is asked.
     Free,
-    /// They are one symbol: the first of its arguments that differ get smaller.
+    /// The two symbols are one: the first of its arguments that differ get smaller.
     Same(Parts<'a>),
-    /// They are two.
+    /// There are two symbols.
     Other(Others<'a>),
 }
 
-/// Bits of which none is to be set, parts that are all to be met, and how symbols have to compare.
+/// A condition: bits of which none is to be set, parts that are all to be met, and how symbols have to compare.
 #[derive(Drop)]
 pub struct Whole<'a> {
     /// The first of these bits.
     pub first: u32,
-    /// How many there are.
+    /// How many bits there are.
     pub count: u32,
     /// The parts.
     pub parts: Parts<'a>,
@@ -74,13 +74,13 @@ pub struct Whole<'a> {
     pub order: Order<'a>,
 }
 
-/// Where a claim holds, some part has a bit set and its claim holds; or there are further parts, the claim of each of
-/// these holds that has a bit set, and symbols compare.
+/// A plan for a claim. Where the claim holds, one of the parts in `some` has a bit set and its own claim holds; or the
+/// condition in `all` is met.
 #[derive(Drop)]
 pub struct Plan<'a> {
-    /// Some of them.
+    /// Parts of which one is enough.
     pub some: Parts<'a>,
-    /// Or all of these.
+    /// The condition, if there is one.
     pub all: Option<Whole<'a>>,
 }
 
@@ -279,7 +279,8 @@ fn above<'a>(
     }
 }
 
-// The same, where the parts are there that some argument on the left is greater, and may be met instead.
+// The plan for the left tree above the right one, where `some` has the parts that an argument on the left is greater.
+// These may be met instead.
 fn above_from<'a>(
     alloc: Global,
     some: Parts<'a>,
@@ -426,7 +427,7 @@ fn pick_left<'a>(
     put_left(parts, picked, picked, claim, f, right)
 }
 
-// And on the right.
+// Puts the claim for each argument of the symbol on the right, with the bit that it is picked.
 fn pick_right<'a>(
     parts: &mut Parts<'a>,
     claim: Claim,
@@ -469,7 +470,7 @@ fn put_left<'a>(
     Ok(())
 }
 
-// And on the right.
+// Puts the claim for each argument of the symbol on the right, with its two bits.
 fn put_right<'a>(
     parts: &mut Parts<'a>,
     first: u32,

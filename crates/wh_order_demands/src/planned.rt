@@ -1,4 +1,4 @@
-//! Demands of claims.
+//! The demand of a claim: its plan, followed into the parts. `demand_of` is the main function.
 
 ghost use Rattle.std.specs.Prelude.{◌≡◌, ◌||◌, ℕ, Bool, IfOk, not, true};
 ghost use Rattle.wh_terms.specs.Erase.{tm};
@@ -71,7 +71,7 @@ fn planned(
     }
 }
 
-// That no bit is set, that all parts are met, and that symbols compare.
+// The demand that no bit of some is set, that all parts are met, and that symbols compare.
 #[cycle(demanding)]
 fn whole_of(
     alloc: Global,
@@ -89,7 +89,7 @@ fn whole_of(
     both(alloc, unset, rest)
 }
 
-// That symbols compare.
+// The demand that symbols compare.
 #[cycle(demanding)]
 fn order_of(
     alloc: Global,
@@ -107,7 +107,7 @@ fn order_of(
     }
 }
 
-// That two symbols do.
+// The demand that two different symbols compare.
 #[cycle(demanding)]
 fn others_of(
     alloc: Global,
@@ -125,7 +125,7 @@ fn others_of(
     either(alloc, picks, low)
 }
 
-// That one of so many bits is set.
+// The demand that one of `count` bits from `first` on is set.
 fn one_of(alloc: Global, first: u32, count: u32) -> Result<Demand, AllocError>
     ensures { IfOk result (λ made. (v : ℕ → Bool) → SomeSet v first count → holds v made ≡ true) }
 {
@@ -137,7 +137,7 @@ fn one_of(alloc: Global, first: u32, count: u32) -> Result<Demand, AllocError>
     Ok(found)
 }
 
-// That one of two bits is set.
+// The demand that one of two bits is set.
 fn set(alloc: Global, bit: u32, other: u32) -> Result<Demand, AllocError>
     ensures { IfOk result (λ made. (v : ℕ → Bool) → holds v made ≡ (v bit || v other)) }
 {
@@ -147,7 +147,7 @@ fn set(alloc: Global, bit: u32, other: u32) -> Result<Demand, AllocError>
     either(alloc, Demand::Bit(bit), Demand::Bit(other))
 }
 
-// That neither of them is.
+// The demand that neither of two bits is set.
 fn unset(alloc: Global, bit: u32, other: u32) -> Result<Demand, AllocError>
     ensures { IfOk result (λ made. (v : ℕ → Bool) → holds v made ≡ not (v bit || v other)) }
 {
@@ -157,7 +157,7 @@ fn unset(alloc: Global, bit: u32, other: u32) -> Result<Demand, AllocError>
     both(alloc, Demand::NoBit(bit), Demand::NoBit(other))
 }
 
-// That some part is met.
+// The demand that some part is met.
 #[cycle(demanding)]
 fn some_of(
     alloc: Global,
@@ -178,7 +178,7 @@ fn some_of(
     Ok(found)
 }
 
-// That all parts are met.
+// The demand that all parts are met.
 #[cycle(demanding)]
 fn all_of(
     alloc: Global,
@@ -199,7 +199,8 @@ fn all_of(
     Ok(found)
 }
 
-// That in the first part in which the trees differ the left one is greater, from the last part on.
+// The demand that in the first part in which the trees differ the left one is greater. It is made from the last part
+// on.
 #[cycle(demanding)]
 fn first_of(
     alloc: Global,
@@ -219,7 +220,7 @@ fn first_of(
     Ok(found)
 }
 
-// The same where one more part comes first.
+// The demand that in the first part that differs the left tree is greater, for this part and then those of `rest`.
 #[cycle(demanding)]
 fn first_from(
     alloc: Global,

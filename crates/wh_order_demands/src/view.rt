@@ -1,4 +1,4 @@
-//! What heads a tree.
+//! Views: what heads a tree, with the bits of the symbol where they are known.
 
 ghost use Rattle.std.specs.Prelude.{◌≡◌, ◌++◌, IfOk, OnOk};
 ghost use Rattle.wh_terms.specs.Erase.{tm};
@@ -12,7 +12,7 @@ use wh_terms::Term;
 /// Where the bits of a symbol stand.
 #[derive(Clone, Copy)]
 pub struct Spot {
-    /// The first one: that of the first place, which is set where the place is kept.
+    /// The number of the first bit. It is the bit of the first place, and is set where the place is kept.
     pub first: u32,
     /// How many places the symbol has.
     pub places: u32,
@@ -34,9 +34,9 @@ pub struct Call<'a> {
 pub enum View<'a> {
     /// A symbol with bits.
     Call(Call<'a>),
-    /// A symbol without, or one that lacks arguments.
+    /// A symbol without bits, or one that lacks arguments.
     Unknown,
-    /// No symbol.
+    /// No symbol heads the tree.
     Other,
 }
 

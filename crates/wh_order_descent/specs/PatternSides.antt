@@ -21,6 +21,6 @@ pub record HasPatternSides (S : Symbols) (p : PairData) : Type 0 where
   pub arguments_known : KnowsArguments S p.metas
   pub left_patterns : AllByRecursion (IsPatternUnder 0) p.left
 
--- and so each pair of the list
+-- each pair of the list has pattern sides
 abbrev pub HavePatternSides : Symbols → List PairData → Type 0
 HavePatternSides S pairs = (p : PairData) → Contains pairs p → HasPatternSides S p

@@ -39,7 +39,7 @@ length_map : {A B : Type 0} (h : A → B) (l : List A) → length (map h l) ≡ 
 length_map h [] = refl
 length_map h (a ∷ l) = ap suc (length_map h l)
 
--- a spine is full where its head is, with so many arguments behind it, and these are
+-- a spine is full where its head is, with the number of arguments behind it, and these are
 full_spine : (arity : ℕ → ℕ) (n : ℕ) (h : Tm) (qs : List Tm) → FullWith arity (length qs + n) h → AllByRecursion (FullWith arity 0) qs → FullWith arity n (spine h qs)
 full_spine arity n h [] f g = subst (λ n. FullWith arity n h) (omega arith) f
 full_spine arity n h (q ∷ qs) f g = full_spine arity n (app h q) qs (subst (λ n. FullWith arity n h) (omega arith) f, g.0) g.1

@@ -15,7 +15,7 @@ missing S r = arguments (kind S r.metas [] r.left)
 abbrev pub added : List Ty → List Declared
 added cs = map (λ c. record { args = []; out = c }) cs
 
--- these meta-variables, numbered from n on (ours)
+-- for each type the application of such a meta-variable, numbered from n on (ours)
 abbrev pub added_from : ℕ → List Ty → List Tm
 added_from n [] = []
 added_from n (c ∷ cs) = meta n none ∷ added_from (suc n) cs

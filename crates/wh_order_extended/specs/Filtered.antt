@@ -97,7 +97,7 @@ pub record Filters (S F : Symbols) (Φ : ℕ → Filter) : Type 0 where
   pub proper : (f : ℕ) (a : Ty) → slice_get S.funs f ≡ Some a → IsProper (arguments a) (Φ f)
   pub kept : (f : ℕ) (a : Ty) → slice_get S.funs f ≡ Some a → slice_get F.funs f ≡ Some (kept_type (arguments a) (Φ f))
 
--- the same for the marked symbol of f, whose arguments have these types (ours)
+-- what FitsSymbol says, for the marked symbol of f, whose arguments have these types (ours)
 pub record FitsMark (S F : Symbols) (Φ : ℕ → Filter) (f : ℕ) (cs : List Ty) : Type 0 where
   pub proper : IsProper cs (Φ (marked_number S f))
   pub kept : slice_get F.funs (marked_number S f) ≡ Some (kept_type cs (Φ (marked_number S f)))

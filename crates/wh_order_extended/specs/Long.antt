@@ -19,7 +19,8 @@ finish (lam b u) a c = c
 finish (meta z ts) a c = c
 finish _ a c = expand a c
 
--- the same for an argument t of a meta-application: there a bound variable stands as it is too (Fuhs and Kop 2019)
+-- what `finish` says, for an argument t of a meta-application: there a bound variable stands as it is too (Fuhs and Kop
+-- 2019)
 abbrev pub finish_argument : Tm → Ty → Tm → Tm
 finish_argument (bound i) a c = c
 finish_argument t a c = finish t a c

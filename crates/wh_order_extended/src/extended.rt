@@ -1,4 +1,4 @@
-//! Extended trees.
+//! Laws of extended trees: their types, their arguments, and what stays a pattern.
 
 ghost use Rattle.std.specs.Prelude.{ℕ, ◌≡◌, List, [], Some, slice_get};
 ghost use Rattle.wh_types.specs.Ty.{Ty, SortsBelow};

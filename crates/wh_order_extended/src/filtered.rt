@@ -1,4 +1,4 @@
-//! Filtered trees.
+//! Laws of filtered trees: their types, and the signature that they are trees over.
 
 ghost use Rattle.std.specs.Prelude.{ℕ, ◌≡◌, List, [], map, Some, slice_get};
 ghost use Rattle.wh_types.specs.Ty.{Ty, arguments};
@@ -19,7 +19,7 @@ pub fn filtered_symbols_have_one_sort()
     ensures { (Φ : ℕ → Filter) (css : List (List Ty)) → HasOneSort (filtered_symbols Φ css) × KnowsSorts (filtered_symbols Φ css) }
 {}
 
-/// It is a signature for the filtered trees over symbols with arguments of the types.
+/// The signature that proper filters make is one for the filtered trees over symbols with arguments of the types.
 pub fn filtered_symbols_fit()
     ensures { (S : Symbols) (Φ : ℕ → Filter) (css : List (List Ty))
         → ((f : ℕ) (a : Ty) → slice_get S.funs f ≡ Some a → slice_get css f ≡ Some (arguments a) × IsProper (arguments a) (Φ f))

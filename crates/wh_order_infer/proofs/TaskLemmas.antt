@@ -87,7 +87,7 @@ strict_behind i is so = on (letter_of i)
     on variable = refl
     on meta_part = refl
 
--- the same task with another claim
+-- the task with another claim
 abbrev pub claimed : Claim → Task → Task
 claimed c k = record { claim = c; next = k.next; left = k.left; right = k.right }
 

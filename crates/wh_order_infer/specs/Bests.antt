@@ -34,7 +34,8 @@ letter_with n =
     else Meta
 
 module _ (F : Symbols) (prec : ℕ → ℕ) (M : List Declared) where
-  -- by this letter at this place the task is shown with so many entries in all, nested at most `room` deep
+  -- by this letter at this place an inference shows the task, with the choice's count of entries, nested at most `room`
+  -- deep
   abbrev pub IsBy : ℕ → Task → Choice → Type 0
   IsBy room k c = (d : ℕ) × (b : ℕ) × (ks : List Task) × (room ≡ suc d) × (tasks_by F prec M k (letter c.letter) c.place ≡ Some ks)
       × AreShown F prec M d ks b × (c.count ≡ suc b)
@@ -71,7 +72,7 @@ abbrev pub IsLeastInference : FilteringData → ℕ → Goal → Option Inferenc
 IsLeastInference D room g r = (w : World) → IsGoalOver (length D.symbols) w g
     → IsLeast entries (IsGood w.symbols (order_of D) w.metas room (task (length D.symbols) g)) (option_map inference r)
 
--- and such inferences for the goals of a list, however many entries they have together
+-- inferences for the goals of a list that have the least number of entries together
 abbrev pub AreLeastInferences : FilteringData → ℕ → List Goal → Option (List Inference) → Type 0
 AreLeastInferences D room gs None = (w : World) → AreGoalsOver (length D.symbols) w gs
     → (js : m.Inferences) → AreGood w.symbols (order_of D) w.metas room (map (task (length D.symbols)) gs) js → 2 ^ 32 ≤ all_entries js
@@ -83,7 +84,7 @@ AreLeastInferences D room gs (Some is) = (w : World) → AreGoalsOver (length D.
 abbrev pub written_place : Choice → ℕ
 written_place c = elim c.letter [ Mono ↦ 0 | _ ↦ c.place ]
 
--- the choice by this letter at this place whose parts have so many entries, where that makes fewer than 2^32
+-- the choice by this letter at this place whose parts have n entries; None where n + 1 is not below 2^32
 abbrev pub IsOneMore : Letter → ℕ → Option ℕ → Option Choice → Type 0
 IsOneMore l place None r = r ≡ None
 IsOneMore l place (Some n) r =

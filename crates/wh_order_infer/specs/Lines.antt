@@ -1,4 +1,4 @@
--- Lines of inferences that are found, or shown to be none.
+-- The answers of the search for the inference of a line: one with the fewest entries, or that there is none.
 use Rattle.std.specs.Prelude.{◌≡◌, ◌<◌, ◌≤◌, ◌^◌, List, length, Option, None, MatchOption}
 use Rattle.wh_terms.specs.Typing.{Symbols, Declared}
 use Rattle.wh_terms.specs.Rules.{RewriteRule}
@@ -21,7 +21,7 @@ pub record Shows (S : Symbols) (rules : List RewriteRule) (D : FilteringData) (M
   pub nested : depth i ≤ deepest_inference
   pub few : entries i < 2 ^ 32
 
--- this is such an inference with the fewest entries, or there is none
+-- the answer is an inference that shows the claim with the fewest entries, or there is none
 abbrev pub IsFound : FilteringData → Claim → Tree → Tree → Option Inference → Type 0
 IsFound D c s t found = (S : Symbols) (rules : List RewriteRule) (M : List Declared) → AreSides S rules D M s t
     → MatchOption found ((i : m.Inference) → Shows S rules D M c s t i → ⊥)

@@ -1,4 +1,5 @@
-//! The least number of entries that shows a goal.
+//! The search for the least number of entries that shows a goal. `best` is the main function; `build` makes the
+//! inference.
 
 ghost use Rattle.std.specs.Prelude.{◌≡◌, ◌↔◌, IfOk, IsTrue, Some};
 ghost use Rattle.wh_order_node.specs.FilteringView.{filtering_data};
@@ -92,7 +93,7 @@ fn choice_at(
     }
 }
 
-// The choice whose parts have so many entries.
+// The choice whose parts have this number of entries, if there is one and it fits in 32 bits with one more.
 fn one_more(letter: Letter, place: u32, parts: Option<u32>) -> Option<Choice>
     ensures { IsOneMore letter place parts result }
 {

@@ -1,4 +1,4 @@
-//! Inferences with the fewest entries.
+//! Building an inference with the fewest entries for a goal, by the choices of `best`.
 
 ghost use Rattle.std.specs.Prelude.{◌≡◌, IfOk, Some};
 ghost use Rattle.wh_order_node.specs.FilteringView.{filtering_data};
@@ -54,7 +54,7 @@ fn build_by(
     }
 }
 
-// Such inferences for each of the goals.
+// Inferences with the fewest entries for each of the goals; `None` where there are none for one.
 #[cycle(building)]
 fn build_each(
     known: &mut Known<'_>,

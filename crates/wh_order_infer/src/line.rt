@@ -1,4 +1,4 @@
-//! Lines of inferences.
+//! Finding the inference of a line: `find_inference` for at least, `find_greater` for greater.
 
 ghost use Rattle.std.specs.Prelude.{IfOk};
 ghost use Rattle.wh_order_path.specs.Verdict.{Claim, at_least, greater};

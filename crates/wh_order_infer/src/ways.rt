@@ -1,4 +1,4 @@
-//! The ways to show a goal.
+//! The ways to show a goal: letters by number, and the goals that are left by a letter at a place.
 
 ghost use Rattle.std.specs.Prelude.{◌≡◌, IfOk};
 ghost use Rattle.wh_order_inference.specs.Inferences.{arguments, infer, no_parts, variable};

@@ -1,4 +1,4 @@
--- Argument filters of symbols.
+-- Argument filters (argument filterings) of symbols, as the path order has them.
 use Rattle.std.specs.Prelude.{ℕ, List}
 
 -- a symbol keeps the arguments at these places, and is compared by this precedence; or it gives way to the argument at

@@ -4,7 +4,7 @@ use Rattle.wh_types.specs.Limits.{greatest_number}
 use Rattle.wh_order_inference.specs.Inferences.{Inference, infer, Inferences, no_parts, more_parts}
 use Rattle.wh_order_inference.specs.InferenceText.{Form, alone, with_parts, with_place, form}
 
--- inferences nest at most so deep, the outermost included
+-- how deep inferences may nest, the outermost included
 abbrev pub deepest_inference : ℕ
 deepest_inference = 64
 

@@ -1,4 +1,4 @@
-//! Argument filters.
+//! Argument filters (argument filterings): which arguments of a symbol a path order looks at.
 
 use wh_types::Numbers;
 

@@ -1,4 +1,5 @@
-//! Inferences of the path order.
+//! Inferences of the path order, as a certificate writes them: trees of letters, each of which says how a claim is
+//! shown.
 
 use wh_types::List;
 
@@ -7,9 +8,9 @@ use wh_types::List;
 pub enum Letter {
     /// `=`: the trees are the same.
     Same,
-    /// `l`: both are abstractions over one type; by the bodies.
+    /// `l`: the two trees are abstractions over one type; by the bodies.
     Lam,
-    /// `m`: both have the same head, which is no symbol; by the arguments, some of which get smaller.
+    /// `m`: the two trees have the same head, which is no symbol; by the arguments, some of which get smaller.
     Mono,
     /// `s`: by an argument on the left that is at least the right tree.
     Sub,

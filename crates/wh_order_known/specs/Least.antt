@@ -1,8 +1,8 @@
--- The least of some things.
+-- A thing with the least number of all that have a property, as long as numbers fit in 32 bits.
 use Rattle.std.specs.Prelude.{ℕ, ◌<◌, ◌≤◌, ◌^◌, Option, None, Some}
 
--- this is one with the least number of those that P holds of, and its number is below 2^32; or there is none, where all
--- of them have greater numbers (ours)
+-- the answer Some a has the least number of all that P holds of, and its number is below 2^32; the answer None says
+-- that all of them have numbers of 2^32 or more (ours)
 abbrev pub IsLeast : {A : Type 0} → (A → ℕ) → (A → Type 0) → Option A → Type 0
 IsLeast {A} number P None = (a : A) → P a → 2 ^ 32 ≤ number a
 IsLeast {A} number P (Some a) = (number a < 2 ^ 32) × P a × ((b : A) → P b → number a ≤ number b)
@@ -11,6 +11,6 @@ IsLeast {A} number P (Some a) = (number a < 2 ^ 32) × P a × ((b : A) → P b �
 abbrev pub own : ℕ → ℕ
 own n = n
 
--- it is not so that the fact fails: what can be kept of it beside data
+-- a fact that can't be refuted: what can be kept of a fact beside data
 abbrev pub NotRefuted : Type 0 → Type 0
 NotRefuted A = (A → ⊥) → ⊥

@@ -33,7 +33,7 @@ abbrev mutual
   plain_row end_of-Tree = no_trees
   plain_row (more_of-Tree t rest) = more_trees (plain t) (plain_row rest)
 
--- so the trees of a list
+-- the trees of a list, without pointers
 abbrev pub plains : List Tree → Plains
 plains [] = no_trees
 plains (t ∷ ts) = more_trees (plain t) (plains ts)

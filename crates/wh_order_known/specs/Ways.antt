@@ -20,7 +20,7 @@ module _ (F : Symbols) (prec : ℕ → ℕ) (M : List Declared) where
   abbrev pub IsGood : ℕ → Task → Inference → Type 0
   IsGood d k i = (verdict F prec M k i ≡ None) × (depth i ≤ d)
 
-  -- and so each one of a list for the task at its place
+  -- each inference of a list is good for the task at its place, and nests at most d deep
   abbrev pub AreGood : ℕ → List Task → Inferences → Type 0
   AreGood d ks is = (verdicts F prec M ks is ≡ None) × (deepest is ≤ d)
 
@@ -32,8 +32,8 @@ module _ (F : Symbols) (prec : ℕ → ℕ) (M : List Declared) where
   abbrev pub AreShown : ℕ → List Task → ℕ → Type 0
   AreShown d ks c = (is : Inferences) × AreGood d ks is × (all_entries is ≡ c)
 
-  -- what is asked for where the task is done by this letter at this place. By `m` two trees are compared argument by
-  -- argument, and some of them have to get smaller: there the place says which (ours)
+  -- the tasks that are left where the task is done by this letter at this place. By `m` two trees are compared argument
+  -- by argument, and some of them have to get smaller: there the place says which (ours)
   abbrev pub tasks_by : Task → Letter → ℕ → Option (List Task)
   tasks_by k arguments zero = None
   tasks_by k arguments (suc n) = elim (tasks F prec M k arguments zero strict_part) [ None ↦ None | Some ks ↦ sharpened n ks ]

@@ -1,4 +1,4 @@
-//! The first step of an inference.
+//! The first step of an inference, as a choice: the letter, the place, and how many entries the whole inference has.
 
 ghost use Rattle.std.specs.Prelude.{◌≡◌};
 ghost use Rattle.wh_order_known.specs.Counts.{IsLesser, count_of};
@@ -12,11 +12,11 @@ pub struct Choice {
     pub letter: Letter,
     /// The place, counted from 1; 0 for a letter without a place. For `m` it is that of an argument that gets smaller.
     pub place: u32,
-    /// The number of entries of the inference, itself included.
+    /// The number of entries of the inference, with its first one.
     pub count: u32,
 }
 
-/// How many entries that makes; `None` for no choice.
+/// The number of entries of the choice; `None` for no choice.
 pub fn count_of(choice: Option<Choice>) -> Option<u32>
     ensures { result ≡ count_of choice }
 {

@@ -1,4 +1,4 @@
-//! Copies of trees, and whether two trees are alike.
+//! Copies of filtered trees, and whether two trees are alike: nothing tells them apart.
 
 ghost use Rattle.std.specs.Prelude.{◌≡◌, IfOk, IsTrue};
 ghost use Rattle.wh_types.specs.Erase.{ty};

@@ -1,12 +1,12 @@
-//! Goals whose least number of entries is known.
+//! Entries of the table of goals: a goal with the least number of entries of an inference for it.
 
 use wh_order::Claim;
 use wh_order_trees::Tree;
 
-/// The least number of entries that shows a goal, nested at most so deep.
+/// The least number of entries of an inference that shows a goal and nests at most `room` deep.
 #[derive(Drop)]
 pub struct Entry {
-    /// What is claimed.
+    /// The claim of the goal.
     pub claim: Claim,
     /// The number for the next variable.
     pub next: u32,
@@ -14,7 +14,7 @@ pub struct Entry {
     pub left: Tree,
     /// The right tree.
     pub right: Tree,
-    /// How deep inferences nest at most.
+    /// How deep the inferences may nest.
     pub room: u8,
     /// The least number of their entries; `None` where it is 2^32 at least.
     pub count: Option<u32>,

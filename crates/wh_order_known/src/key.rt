@@ -1,10 +1,9 @@
-//! Numbers by which goals are told apart in haste.
+//! Keys of goals: numbers by which goals that differ are mostly told apart without a look at their trees.
 
 use wh_order::{Claim, Goal};
 use wh_order_trees::Tree;
 
-/// A number for the goal, nested at most `room` deep. Nothing is claimed of it: goals that differ may well have the
-/// same one.
+/// A number for the goal, nested at most `room` deep. Nothing is claimed of it: goals that differ may have one number.
 pub fn key_of(goal: &Goal<'_>, room: u8) -> u32 {
     let key = mixed(mixed(claim_key(goal.claim), goal.next), u32::from(room));
     tree_key(goal.right.tree(), tree_key(goal.left.tree(), key))

@@ -1,4 +1,4 @@
-//! What is known of goals.
+//! What is known of goals: a table from goals to the least number of entries that shows each, under some filters.
 
 ghost use Rattle.std.specs.Prelude.{◌≡◌, All, IfOk, IfSome, IsTrue, length};
 ghost use Rattle.wh_order_node.specs.FilteringView.{filtering_data};

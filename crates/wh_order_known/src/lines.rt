@@ -1,4 +1,4 @@
-//! The goals that lines are for.
+//! The goals that lines of a node are for: that the left side is at least the right one, or greater.
 
 ghost use Rattle.wh_order_path.specs.Verdict.{at_least, greater};
 ghost use Rattle.wh_order_known.specs.LineGoals.{IsLineGoal};

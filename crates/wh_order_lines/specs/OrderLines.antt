@@ -40,7 +40,7 @@ module _ (S : Symbols) (rules : List RewriteRule) (D : FilteringData) where
   abbrev pub IsRuleLineOrNone : RewriteRule → Option made.Inference → Type 0
   IsRuleLineOrNone r found = MatchOption found (MeetsRule S rules D r → ⊥) (λ line. IsRuleLine r (inference line))
 
-  -- and so for the pair
+  -- a line for the pair, or there is none
   abbrev pub IsPairLineOrNone : PairData → Option PairLine → Type 0
   IsPairLineOrNone p found = MatchOption found (MeetsPair S rules D p → ⊥) (IsPairLine p)
 

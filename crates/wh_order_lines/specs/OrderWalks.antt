@@ -35,7 +35,7 @@ module _ (T : TaskData) (D : FilteringData) where
     pub strict_is : dropped ↔ OrientsStrictly T.symbols T.rules D p
     pub differ : dropped → letter_of line ≢ same_trees
 
-  -- so for the pair number n
+  -- the line is one for the pair number n
   abbrev pub IsLineOfPair : List ℕ → ℕ → Inference → Type 0
   IsLineOfPair drop n line = (p : PairData) → slice_get T.pairs n ≡ Some p → IsDropped (Contains drop n) p line
 

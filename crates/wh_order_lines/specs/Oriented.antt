@@ -18,11 +18,11 @@ module _ (S : Symbols) (rules : List RewriteRule) (D : FilteringData) where
   abbrev pub OrientsRule : RewriteRule → Type 0
   OrientsRule r = (i : Inference) × IsGoodRule S rules D r i × IsWithin i
 
-  -- so can that of a pair
+  -- the line of a pair can be made good
   abbrev pub OrientsPair : PairData → Type 0
   OrientsPair p = (i : Inference) × IsGoodPair S rules D p i × IsWithin i
 
-  -- and without being that of equal trees
+  -- the line of a pair can be made good without being that of equal trees
   abbrev pub OrientsStrictly : PairData → Type 0
   OrientsStrictly p = (i : Inference) × IsGoodPair S rules D p i × IsWithin i × (letter_of i ≢ same_trees)
 

@@ -1,4 +1,4 @@
-//! Inferences of lines have texts in certificates.
+//! Laws of lines: good inferences under proper filters have texts in certificates.
 
 ghost use Rattle.wh_terms.specs.Rules.{RewriteRule};
 ghost use Rattle.wh_system.specs.Systems.{SystemData};
@@ -18,7 +18,7 @@ pub fn rule_line_fits()
         → IsGoodRule d.symbols d.rules D r i → IsWithin i → InferenceFits 0 i }
 {}
 
-/// So does one for a pair.
+/// Under proper filters a good inference for a pair has a text in certificates where it nests at most 64 deep.
 pub fn pair_line_fits()
     ensures { (d : SystemData) (D : FilteringData) (p : PairData) (i : Inference) → IsWellMadeSystem d → AreFilters d.symbols d.rules D
         → IsGoodPair d.symbols d.rules D p i → IsWithin i → InferenceFits 0 i }

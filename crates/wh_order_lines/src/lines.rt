@@ -1,4 +1,4 @@
-//! Lines of rules and of pairs under a given order.
+//! Finding the line of a single rule or pair under a given order.
 
 ghost use Rattle.std.specs.Prelude.{◌≡◌, ◌<◌, IfOk, MatchOption, None, Some, length, slice_get};
 ghost use Rattle.wh_terms.specs.Rules.{RewriteRule};
@@ -28,7 +28,7 @@ use wh_types::Or;
 pub struct PairLine {
     /// The inference.
     pub inference: Inference,
-    /// Whether it is not that of equal trees.
+    /// Whether the inference is another one than that of equal trees.
     pub strict: bool,
 }
 
@@ -75,8 +75,8 @@ fn rule_side(
     }
 }
 
-/// An inference that orients the pair, which is not that of equal trees where one can be had that is not; `None` where
-/// there is none, or a side is too wide.
+/// An inference that orients the pair: where there are several, one that is not that of equal trees. `None` where there
+/// is none, or a side is too wide.
 pub fn pair_line(
     alloc: Global,
     system: &System,
@@ -97,8 +97,8 @@ pub fn pair_line(
     line_between(alloc, filters, &left, &right)
 }
 
-/// An inference that orients the pair, that of equal trees or another one; `None` where there is none, or a side is too
-/// wide. It takes one search, where `pair_line` may take two.
+/// An inference that orients the pair, whichever is found first. `None` where there is none, or a side is too wide. It
+/// takes one search, where `pair_line` may take two.
 pub fn any_pair_line(
     alloc: Global,
     system: &System,

@@ -1,4 +1,4 @@
-//! Lines for all rules, and for all pairs of a set, under a given order.
+//! Finding lines for all rules, and for all pairs of a set, under a given order, or the first that has none.
 
 ghost use Rattle.std.specs.Prelude.{◌↔◌, ◌<◌, Contains, IfOk, IsTrue, length, map};
 ghost use Rattle.wh_types.specs.Outcome.{MatchOr};

@@ -13,7 +13,7 @@ use Rattle.wh_order_path.specs.Heads.{arguments_of, list_of}
 use Rattle.wh_order_local.specs.Only.{Only, AllOnly}
 
 module _ (P : ℕ → Type 0) where
-  -- so it is of all trees of a list
+  -- all trees of a list have the property
   abbrev pub EachOnly : List Tm → Type 0
   EachOnly ts = AllByRecursion (Only P) ts
 

@@ -1,4 +1,4 @@
--- What holds of all symbols of a tree.
+-- A property that all symbols of a tree have.
 use Rattle.std.specs.Prelude.{ℕ}
 use Rattle.wh_terms.specs.Tree.{Tm, fun, meta, lam, app, Tms, none, more}
 

@@ -1,4 +1,4 @@
--- Demands as circuits.
+-- Demands as circuits: wires that are true where bits meet a demand.
 use Rattle.std.specs.Prelude.{ℕ, ◌≡◌, ◌<◌, Bool, true, List, [], Option, None, Some, get_or, slice_get}
 use Rattle.wh_sat_trail.specs.declared.literal.Literal.{Literal}
 use Rattle.wh_circuit.specs.declared.circuit.Circuit.{Circuit}
@@ -60,7 +60,7 @@ pub record Joins (before after : Circuit) (wire : Literal) (stated : (ℕ → Bo
   pub required : required_of after ≡ required_of before
   pub means : Means (gates_of after) wire stated
 
--- so it is, or there is no wire
+-- the circuit grew and the wire is what is stated of the values, or there is no wire
 abbrev pub IsJoined : Circuit → Circuit → ((ℕ → Bool) → Bool) → Option Literal → Type 0
 IsJoined before after stated None = Unit {0}
 IsJoined before after stated (Some wire) = Joins before after wire stated

@@ -1,4 +1,4 @@
-//! Whether bits can meet a demand.
+//! Whether bits can meet a demand: the demand becomes a circuit, which a solver is asked about.
 #![tactic(auto)]
 
 mod meeting;

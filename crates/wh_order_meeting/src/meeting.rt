@@ -1,4 +1,4 @@
-//! Whether bits can meet a demand, by a circuit.
+//! Whether bits can meet a demand, by a circuit and a solver. `meet` is the main function.
 
 ghost use Rattle.std.specs.Prelude.{◌≡◌, ◌≤◌, ◌&&◌, ◌||◌, [], IfOk, IfSome, false, length, true};
 ghost use Rattle.wh_circuit.specs.Gates.{IsWire};
@@ -16,7 +16,7 @@ use wh_types::counted;
 /// Whether bits can meet a demand.
 #[derive(Drop)]
 pub enum Meeting {
-    /// None do.
+    /// No bits meet the demand.
     Never,
     /// Values of bits that are worth trying; nothing is promised of them.
     Bits(Vec<bool>),
@@ -89,7 +89,7 @@ fn value_at(values: &[bool], input: Option<u32>) -> bool {
     }
 }
 
-// So many inputs.
+// A circuit of `count` inputs.
 fn circuit_with(alloc: Global, count: u32) -> Result<Circuit, AllocError>
     requires { count ≤ 2000000 }
     ensures inputs { IfOk result (λ made. AreInputs count (gates_of made)) }
@@ -167,7 +167,7 @@ fn wire_in(circuit: &Circuit, bit: u32, places: &[Option<u32>], positive: bool) 
     }
 }
 
-// The same, where it has any input.
+// The wire of a bit, or of its negation, where it has an input.
 fn wire_at(bit: u32, places: &[Option<u32>], positive: bool) -> Option<Wire>
     ensures { IsWireAt bit places.now positive result }
 {
@@ -187,7 +187,7 @@ fn input_of(places: &[Option<u32>], bit: u32) -> Option<u32>
     }
 }
 
-// Both wires are true, where there is room for a gate.
+// The wire that is true where both wires are, if there is room for a gate.
 fn both(circuit: &mut Circuit, left: Wire, right: Wire) -> Result<Option<Wire>, AllocError>
     requires left { IsWire (gates_of circuit.old) left }
     requires right { IsWire (gates_of circuit.old) right }

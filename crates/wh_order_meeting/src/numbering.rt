@@ -1,4 +1,4 @@
-//! Inputs for the bits that a demand names.
+//! Inputs for the bits that a demand names, so that the circuit has no others.
 
 ghost use Rattle.std.specs.Prelude.{◌≡◌, ◌+◌, ℕ, List, IfOk, OnOk, length};
 ghost use Rattle.wh_order_meeting.specs.Meeting.{AreNumbered};

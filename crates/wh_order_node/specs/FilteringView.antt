@@ -1,4 +1,4 @@
--- What the filters of a node stand for.
+-- The data that the filters of a node stand for.
 use Rattle.std.specs.Prelude.{map}
 use Rattle.wh_order_inference.specs.Said.{written_filter}
 use Rattle.wh_order_node.specs.Filterings as f

@@ -74,7 +74,7 @@ abbrev pub AreProperSymbols : Symbols → FilteringData → Type 0
 AreProperSymbols S D = (f : ℕ) (a : Ty) (w : WrittenFilter) → slice_get S.funs f ≡ Some a → slice_get D.symbols f ≡ Some w
     → IsProperAsWritten (arguments a) w
 
--- and so is that of each marked symbol
+-- the filter of each marked symbol is proper
 abbrev pub AreProperMarks : Symbols → List RewriteRule → FilteringData → Type 0
 AreProperMarks S rules D = (i : ℕ) (m : MarkFilter) → slice_get D.marks i ≡ Some m
     → IsProperAsWritten (marked_types S rules m.symbol) m.filter

@@ -18,7 +18,7 @@ use Rattle.wh_order_node.specs.Filterings.{FilteringData, filters_of, precedence
 abbrev pub IsGoodRule : Symbols → List RewriteRule → FilteringData → RewriteRule → Inference → Type 0
 IsGoodRule S rules D r i = IsGoodLine S (filtered_signature S rules D) (filters_of S D) (precedences_of S D) r i
 
--- and for those of the pair
+-- the inference is good for the two filtered sides of the pair
 abbrev pub IsGoodPair : Symbols → List RewriteRule → FilteringData → PairData → Inference → Type 0
 IsGoodPair S rules D p i =
     IsGoodPairLine S (filtered_signature S rules D) (filters_of S D) (precedences_of S D) p.metas p.left_fun p.left p.right_fun p.right i

@@ -17,7 +17,7 @@ pub struct Filters {
 pub struct MarkFilter {
     /// The number of the symbol that is marked.
     pub symbol: u32,
-    /// Its filter.
+    /// The filter of the marked symbol.
     pub filter: Filter,
 }
 

@@ -199,7 +199,7 @@ module _ (F : Symbols) (prec : ℕ → ℕ) (M : List Declared) where
       asks_arguments other (tree_equal (head s) (head t) heads) (eqb-true (length (arguments_of (app s u))) (length (arguments_of (app t v))) len) strict k
   greater_asks next s t l n is ks e = asks_above e
 
-  -- so the two trees have one type
+  -- where typed_tasks gives tasks, the two trees have one type
   pub typed_asks : (next : ℕ) (s t : Tm) (l : Letter) (n : ℕ) (is : Inferences) (ks : List Task) → typed_tasks F prec M next s t l n is ≡ Some ks
       → (kind F M [] s ≡ kind F M [] t) × GreaterAsks next s t l n is ks
   typed_asks next s t l n is ks e = on (one_kind F prec M s t) refl e

@@ -21,7 +21,7 @@ NoneNumbered x (v ∷ vs) = (v.number ≢ x) × NoneNumbered x vs
 
 -- F is the signature of filtered trees, M declares their meta-variables
 module _ (F : Symbols) (prec : ℕ → ℕ) (M : List Declared) where
-  -- both trees have no loose variable and are well typed, with one type
+  -- the two trees have no loose variable and are well typed, with one type
   pub record OneType (s t : Tm) : Type 0 where
     pub kind : Ty
     pub left : Typed F M [] s kind
@@ -33,7 +33,7 @@ module _ (F : Symbols) (prec : ℕ → ℕ) (M : List Declared) where
       at_least_same : {s t : Tm} → s ≡ t → AtLeast s t (infer same_trees 0 no_parts)
       at_least_greater : {s t : Tm} {i : Inference} → Greater s t i → AtLeast s t i
 
-    -- so member by member
+    -- each tree of the first list is at least its partner in the second
     pub data AllAtLeast : List Tm → List Tm → Inferences → Type 0 where
       none_at_least : AllAtLeast [] [] no_parts
       more_at_least : {s t : Tm} {ss ts : List Tm} {i : Inference} {is : Inferences} → AtLeast s t i → AllAtLeast ss ts is
@@ -71,7 +71,7 @@ module _ (F : Symbols) (prec : ℕ → ℕ) (M : List Declared) where
           → s ≡ spine (fun f) ss → slice_get ss n ≡ Some u → u ≡ abstracted cs (meta z (nearest (length cs))) → length cs ≡ length ts
           → AllAbove s X ts is → Above s X (meta z (tms_of ts)) (infer meta_part (suc n) is)
 
-    -- so above each tree of a list
+    -- the tree is above each tree of a list
     pub data AllAbove : Tm → List Variable → List Tm → Inferences → Type 0 where
       none_above : {s : Tm} {X : List Variable} → AllAbove s X [] no_parts
       more_above : {s t : Tm} {X : List Variable} {ts : List Tm} {i : Inference} {is : Inferences} → Above s X t i

@@ -102,11 +102,11 @@ module _ (F : Symbols) (prec : ℕ → ℕ) (M : List Declared) where
       (pairwise next (arguments_of (app s u)) (arguments_of (app t v)))
   greater_tasks next s t l n is = above_tasks next next s t l n
 
-  -- the same where the two trees have one type, else nothing
+  -- the tasks that greater_tasks gives, where the two trees have one type; else none
   abbrev pub typed_tasks : ℕ → Tm → Tm → Letter → ℕ → Inferences → Option (List Task)
   typed_tasks next s t l n is = cond (one_kind s t) (greater_tasks next s t l n is) None
 
-  -- the same where s is to be at least t
+  -- the tasks that show s at least t by this letter
   abbrev pub at_least_tasks : ℕ → Tm → Tm → Letter → ℕ → Inferences → Option (List Task)
   at_least_tasks next s t same_trees zero is = when (same s t) []
   at_least_tasks next s t l n is = typed_tasks next s t l n is
@@ -135,7 +135,7 @@ module _ (F : Symbols) (prec : ℕ → ℕ) (M : List Declared) where
       | Some ks ↦ cond (length ks == count_parts is) (or_later None 1 (verdicts ks is)) (Some 0)
     ]
 
-    -- the same in a list of inferences, one for each task
+    -- the first bad inference in a list of them, one for each task
     pub verdicts : List Task → Inferences → Option ℕ
     verdicts [] no_parts = None
     verdicts [] (more_parts i is) = Some 0

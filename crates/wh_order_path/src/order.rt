@@ -1,4 +1,4 @@
-//! The path order on filtered trees, as a relation at the root of steps.
+//! Laws of the path order on filtered trees, as a relation at the root of steps: the main one is `path_order_ends`.
 
 ghost use Rattle.std.specs.Prelude.{ℕ, List, []};
 ghost use Rattle.wh_types.specs.Ty.{Ty};
@@ -27,14 +27,14 @@ pub fn orders_are_roots()
     ensures { (F : Symbols) (prec : ℕ → ℕ) → IsRoot F (OrderRoot F prec) }
 {}
 
-/// Where a tree is at least another one, an instance of it comes to the instance of that one.
+/// Where a tree is at least another one, zero or more steps lead from an instance of it to the instance of that one.
 pub fn trees_at_least_are_many_steps()
     ensures { (F : Symbols) (prec : ℕ → ℕ) (M : List Declared) (s t u v : Tm) (i : Inference) (g : ℕ → Body) (φ : ℕ → Ty → Tm)
         → AtLeast F prec M s t i → AreCounted M g → AreFreeTerms φ → Value g (act bound φ s) u → Value g (act bound φ t) v
         → Many (StepOver (OrderRoot F prec)) u v }
 {}
 
-/// Where a tree is greater than another one, an instance of it comes to the instance of that one in one step or more.
+/// Where a tree is greater than another one, one or more steps lead from an instance of it to the instance of that one.
 pub fn trees_greater_are_steps()
     ensures { (F : Symbols) (prec : ℕ → ℕ) (M : List Declared) (s t u v : Tm) (i : Inference) (g : ℕ → Body) (φ : ℕ → Ty → Tm)
         → Greater F prec M s t i → AreCounted M g → AreFreeTerms φ → Value g (act bound φ s) u → Value g (act bound φ t) v

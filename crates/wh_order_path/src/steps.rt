@@ -23,7 +23,8 @@ pub fn steps_are_filtered_steps()
         → Typed S [] [] t a → Step rules t u → Many (StepOver (OrderRoot F prec)) (filtered_term S Φ t) (filtered_term S Φ u) }
 {}
 
-/// So a step in an argument of a call.
+/// A step in an argument of a well-typed call is steps of the path order and of beta between the calls' extended and
+/// filtered trees.
 pub fn steps_in_calls_are_filtered_steps()
     ensures { (S F : Symbols) (Φ : ℕ → Filter) (prec : ℕ → ℕ) (rules : List RewriteRule) (f : ℕ) (ts us : List Tm) (cs : List Ty)
         → AreOriented S F Φ prec rules → AllTyped S [] [] (tms_of ts) cs → StepsIn (Step rules) ts us
@@ -37,8 +38,8 @@ pub fn filtered_calls_end()
         → Ends (StepOver (OrderRoot F prec)) (filtered_call S Φ [] f ts) }
 {}
 
-/// Where the inference of a pair is good, an instance of its left side comes to that of its right side, behind filters;
-/// in one step or more where the inference is not that of equal trees.
+/// Where the inference of a pair is good, zero or more steps lead from an instance of its left side to that of its
+/// right side, behind filters; one or more where the inference is not that of equal trees.
 pub fn good_pairs_are_filtered_steps()
     ensures { (S F : Symbols) (Φ : ℕ → Filter) (prec : ℕ → ℕ) (rules : List RewriteRule) (M : List Declared) (f g : ℕ) (cs ds : List Ty)
         (ls rs ts us : List Tm) (i : Inference) (b : ℕ → Body) → AreOriented S F Φ prec rules → FitsMark S F Φ f cs

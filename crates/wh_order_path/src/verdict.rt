@@ -1,4 +1,4 @@
-//! What a verdict on a line of inferences says.
+//! The law of the verdict on a line of inferences: where no inference is bad, the line holds.
 
 ghost use Rattle.std.specs.Prelude.{ℕ, ◌≡◌, List, [], None};
 ghost use Rattle.wh_types.specs.Ty.{Ty};

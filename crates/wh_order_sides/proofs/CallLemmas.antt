@@ -49,7 +49,7 @@ module _ (S : Symbols) (M : List Declared) where
   total-take (x ∷ xs) zero = omega arith
   total-take (x ∷ xs) (suc n) = omega (arith, total-take xs n)
 
-  -- the terms are the first arguments, extended, and so many nodes more there may be
+  -- the terms are the first arguments, extended, and `left` more nodes there may be
   pub record AreFirst (xs : List Term) (left : ℕ) (us : List Term) : Type 0 where
     pub same : map tm us ≡ extended xs
     pub room : left + (1 + total (extended xs)) ≡ greatest_size

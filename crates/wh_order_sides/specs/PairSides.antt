@@ -1,4 +1,4 @@
--- The sides of a pair.
+-- The sides of a pair as lists of arguments, and their extended forms as they are built.
 use Rattle.std.specs.Prelude.{◌≡◌, ◌≤◌, ◌<◌, ℕ, Bool, true, false, List, [], map, Result}
 use Rattle.wh_types.specs.Limits.{greatest_size}
 use Rattle.wh_types.specs.Outcome.{MatchOr}

@@ -18,7 +18,7 @@ pub record IsBuilt (room : ℕ) (t : Tm) (b : Built) : Type 0 where
 abbrev pub Builds : ℕ → Tm → Result Built (Or TooWide) → Type 0
 Builds room t r = MatchOr r (IsBuilt room t) (λ _. room < size t)
 
--- the same of the trees of a list (ours)
+-- the trees of a list, built, and the room that is left (ours)
 pub record AreBuilt (room : ℕ) (ts : Tms) (b : BuiltTerms) : Type 0 where
   pub same : tms b.items ≡ ts
   pub left : b.room + sizes ts ≡ room

@@ -9,8 +9,8 @@ use Rattle.wh_terms.specs.Measures.{size}
 use Rattle.wh_order_extended.specs.ExtendedSides.{extended_metas, extended_side}
 use Rattle.wh_order_sides.specs.declared.sides.WideSide.{WideSide}
 
--- this is the side t of the rule, extended, over the meta-variables of the rule's extended sides, and has at most
--- 65,536 nodes
+-- w is the side t of the rule, extended, over the meta-variables of the rule's extended sides, and has at most 65,536
+-- nodes
 pub record IsWideSide (S : Symbols) (r : RewriteRule) (t : Tm) (w : WideSide) : Type 0 where
   pub same : tm w.term ≡ extended_side S r t
   pub metas : declared_metas w.metas ≡ extended_metas S r

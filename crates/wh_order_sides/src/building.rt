@@ -1,4 +1,4 @@
-//! Extended terms, built as long as there is room for their nodes.
+//! Extended terms, built as long as there is room for their nodes. `long` is the main function.
 
 ghost use Rattle.std.specs.Prelude.{ℕ, ◌≡◌, [], OnOk};
 ghost use Rattle.wh_terms.specs.Erase.{declared_metas, symbols, tm, tms};
@@ -32,7 +32,7 @@ pub fn long(
     long_under(alloc, signature, metas, &mut binders, term, room)
 }
 
-// The same under binders of the types `binders`, the outermost first.
+// The extended term of a part of a term below binders of the types `binders`, the outermost first.
 #[cycle(building)]
 fn long_under<'a>(
     alloc: Global,
@@ -50,7 +50,7 @@ fn long_under<'a>(
     finish(alloc, signature, metas, binders, term, spine)
 }
 
-// The same for an argument of a meta-variable, where a bound variable stands as it is.
+// The extended term of an argument of a meta-variable below binders, where a bound variable stands as it is.
 #[cycle(building)]
 fn argument_under<'a>(
     alloc: Global,
@@ -170,7 +170,7 @@ fn core_under<'a>(
     }
 }
 
-// The same for the arguments of a meta-variable.
+// The extended terms of the arguments of a meta-variable below binders of the types `binders`.
 #[cycle(building)]
 fn cores_under<'a>(
     alloc: Global,

@@ -1,4 +1,4 @@
-//! Missing arguments.
+//! Missing arguments: a term of a functional type is applied to variables of new abstractions (eta-expansion).
 
 ghost use Rattle.std.specs.Prelude.{ℕ, ◌≡◌, ◌+◌, ◌<◌, IfOk};
 ghost use Rattle.wh_types.specs.Erase.{ty};
@@ -27,7 +27,7 @@ pub fn expand_within(alloc: Global, kind: &SimpleType, spine: Built) -> Result<B
     Ok(Built { term, room })
 }
 
-// What is left of the room once a term of this type has its missing arguments.
+// The room that is left once a term of this type has its missing arguments.
 fn room_behind(kind: &SimpleType, room: u32) -> Result<u32, Or<TooWide>>
     ensures { MatchOr result (λ rest. rest + growth (ty kind.now) ≡ room) (λ _. room < growth (ty kind.now)) }
 {

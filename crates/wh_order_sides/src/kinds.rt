@@ -1,4 +1,4 @@
-//! The type that a term has if it is well typed.
+//! The type that a term has if it is well typed. It is found without a test of the arguments.
 
 ghost use Rattle.std.specs.Prelude.{◌≡◌, [], IfOk, OnOk};
 ghost use Rattle.wh_types.specs.Erase.{ty, tys};
@@ -23,7 +23,8 @@ pub fn kind_of(
     kind_under(alloc, signature, metas, &mut binders, term)
 }
 
-/// The same under binders of the types `binders`, the outermost first. The type of what is not there is a sort.
+/// The type that a term has below binders of the types `binders`, the outermost first, if it is well typed there. A
+/// symbol or variable that is not declared gets a sort as its type.
 #[tactic(auto, using(crate::proofs::KindLemmas::kind_of_lam, crate::proofs::KindLemmas::kind_of_meta))]
 pub fn kind_under<'a>(
     alloc: Global,

@@ -1,4 +1,5 @@
-//! The meta-variables of the extended sides of a rule.
+//! The meta-variables of the extended sides of a rule: those of the rule, and one for each argument that its sides
+//! lack.
 
 ghost use Rattle.std.specs.Prelude.{◌≡◌, ◌++◌, [], IfOk};
 ghost use Rattle.wh_types.specs.Erase.{ty};
@@ -41,7 +42,7 @@ pub fn applied(alloc: Global, term: Term, next: u32, kind: &SimpleType) -> Resul
     }
 }
 
-/// Equal declarations.
+/// Copies of the declarations, in order.
 pub fn copy_metas(alloc: Global, metas: &Metas) -> Result<Metas, AllocError>
     ensures { IfOk result (λ copies. declared_metas copies ≡ declared_metas metas.now) }
 {

@@ -1,4 +1,4 @@
-//! Moving a term below one binder more.
+//! Moving a term below one binder more: its loose variables are counted on.
 
 ghost use Rattle.std.specs.Prelude.{◌≡◌, IfOk, suc};
 ghost use Rattle.wh_terms.specs.Erase.{tm, tms};
@@ -17,7 +17,7 @@ pub fn raise(alloc: Global, term: &Term) -> Result<Term, AllocError>
     raise_under(alloc, term, 0)
 }
 
-// The same for a part of the term that stands below `depth` of its binders.
+// The part of a term that stands below `depth` of its binders, as it reads below one binder more.
 #[cycle(raising)]
 #[tactic(auto, using(crate::proofs::RaiseLemmas::raised_bound, crate::proofs::RaiseLemmas::raised_free, crate::proofs::RaiseLemmas::raised_fun, crate::proofs::RaiseLemmas::raised_app, crate::proofs::RaiseLemmas::raised_lam))]
 fn raise_under(alloc: Global, term: &Term, depth: u32) -> Result<Term, AllocError>
@@ -43,7 +43,7 @@ fn raise_under(alloc: Global, term: &Term, depth: u32) -> Result<Term, AllocErro
     }
 }
 
-// The same for each of the arguments of a meta-variable.
+// The arguments of a meta-variable below `depth` binders of the term, as they read below one binder more.
 #[cycle(raising)]
 #[tactic(auto, using(crate::proofs::RaiseLemmas::renames_push, crate::proofs::RaiseLemmas::renames_none))]
 fn raise_each(alloc: Global, items: &Terms, depth: u32) -> Result<Terms, AllocError>

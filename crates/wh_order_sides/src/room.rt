@@ -1,4 +1,4 @@
-//! Room for nodes: what is built is built only while there is some left.
+//! Room for nodes: extended terms are built only while there is room left, since missing arguments can make them large.
 
 ghost use Rattle.std.specs.Prelude.{◌≡◌, ◌+◌, ◌<◌};
 ghost use Rattle.wh_types.specs.Outcome.{MatchOr};
@@ -15,7 +15,7 @@ pub struct TooWide;
 pub struct Built {
     /// The term.
     pub term: Term,
-    /// How many nodes more there may be.
+    /// How many further nodes there is room for.
     pub room: u32,
 }
 
@@ -24,11 +24,11 @@ pub struct Built {
 pub struct BuiltTerms {
     /// The terms.
     pub items: Terms,
-    /// How many nodes more there may be.
+    /// How many further nodes there is room for.
     pub room: u32,
 }
 
-/// The room without so many nodes; `Err` exactly where there is no room for them.
+/// The room that is left behind `nodes` nodes; `Err` exactly where there is no room for them.
 pub fn without(room: u32, nodes: u32) -> Result<u32, Or<TooWide>>
     ensures { MatchOr result (λ rest. rest + nodes ≡ room) (λ _. room < nodes) }
 {

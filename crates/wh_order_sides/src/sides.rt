@@ -1,4 +1,4 @@
-//! The sides of rules and of pairs with all their arguments.
+//! The sides of rules and of pairs with all their arguments, ready to be filtered for a path order.
 
 ghost use Rattle.std.specs.Prelude.{◌≡◌, ◌<◌, Some, length, map, slice_get};
 ghost use Rattle.wh_types.specs.Limits.{greatest_size};

@@ -1,4 +1,4 @@
--- What the search for orders by a circuit ends with.
+-- The answers of the circuit over the bits of orders, and the demands that it is made of.
 use Rattle.std.specs.Prelude.{ℕ, ◌≡◌, ◌<◌, Bool, List, Option, None, Some, false, true, length, get_or, slice_get}
 use Rattle.std.specs.Global.{Box}
 use Rattle.wh_types.specs.Ty.{Ty}
@@ -48,7 +48,8 @@ IsClaimOfPair T spots c k demand = (v : ℕ → Bool) (Φ : ℕ → Filter) → 
     → ((p : PairData) → slice_get T.pairs k ≡ Some p → Holds Φ c (extended_pair_side T.symbols p false) (extended_pair_side T.symbols p true))
     → holds v demand ≡ true
 
--- and of those of a rule
+-- where the left side of the rule with this number is at least the right one, if there is such a rule, the bits meet
+-- the demand
 abbrev pub IsClaimOfRule : TaskData → List (Option Spot) → ℕ → Demand → Type 0
 IsClaimOfRule T spots k demand = (v : ℕ → Bool) (Φ : ℕ → Filter) → SayFilters spots v Φ
     → ((r : RewriteRule) → slice_get T.rules k ≡ Some r → Holds Φ AtLeast (extended_side T.symbols r r.left) (extended_side T.symbols r r.right))

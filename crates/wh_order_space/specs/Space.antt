@@ -37,7 +37,7 @@ module _ (T : TaskData) (D : FilteringData) where
   Meets some_strictly = (n : ℕ) × (p : PairData) × Contains T.set n × (slice_get T.pairs n ≡ Some p) × MeetsStrictly T.symbols T.rules D p
 
   -- the order lets the pair with this number go: the lines of all rules and of all pairs of the set can be made good,
-  -- that of this one without being that of equal trees (ours)
+  -- and the line of this pair without being that of equal trees (ours)
   pub record LetsGo (n : ℕ) : Type 0 where
     pub rules : (k : ℕ) (r : RewriteRule) → Contains T.covered k → slice_get T.rules k ≡ Some r → OrientsRule T.symbols T.rules D r
     pub pairs : (k : ℕ) (p : PairData) → Contains T.set k → slice_get T.pairs k ≡ Some p → OrientsPair T.symbols T.rules D p

@@ -1,4 +1,4 @@
--- Where the bits of symbols stand, by tables of the program.
+-- The spots of symbols: where their bits stand, by tables of the program.
 use Rattle.std.specs.Prelude.{ℕ, ◌+◌, ◌≡◌, ◌<◌, ◌⊎◌, List, Option, None, Some, length, map, get_or, slice_get}
 use Rattle.std.specs.Global.{Vec}
 use Rattle.wh_types.specs.Erase.{tys}
@@ -10,8 +10,8 @@ use Rattle.wh_order_demands.specs.declared.view.Spot.{Spot}
 abbrev pub types_in : List (Vec SimpleType) → List (List Ty)
 types_in = map (λ (l : Vec SimpleType). tys l.items)
 
--- the bits of the symbol m have the number n: where there are so many symbols, marked ones have numbers behind them
--- all, and their bits those of their places
+-- the bits of the symbol m have the number n. Symbols below `symbols` have their own numbers; a marked symbol has the
+-- number of its place in the list, counted on behind all symbols
 abbrev pub IsNumberOf : ℕ → List ℕ → ℕ → ℕ → Type 0
 IsNumberOf symbols marked m n =
     ((m ≡ n) × (n < symbols)) ⊎ ((i f : ℕ) × (n ≡ symbols + i) × (slice_get marked i ≡ Some f) × (m ≡ symbols + f))

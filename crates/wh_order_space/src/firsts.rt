@@ -1,4 +1,4 @@
-//! Which bit of a symbol comes first.
+//! The numbering of bits of orders: which bit of a symbol comes first.
 
 ghost use Rattle.std.specs.Prelude.{◌≡◌, ◌+◌, ◌*◌, ◌<◌, ◌≤◌, ◌^◌, ℕ, IfOk, get_or, length};
 ghost use Rattle.wh_order_space.specs.Bits.{first_bit};
@@ -31,7 +31,7 @@ pub fn first_bits(
     Ok(made)
 }
 
-// How many bits there are with those of one more symbol that has so many arguments.
+// How many bits there are with one more symbol, which has `places` arguments.
 fn bits_after(before: u32, places: usize, width: u32) -> Result<u32, AllocError>
     ensures sum { IfOk result (λ after. after ≡ before + (2 * places + width)) }
     ensures few { IfOk result (λ after. after < 2 ^ 32) }

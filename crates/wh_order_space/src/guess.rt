@@ -1,4 +1,4 @@
-//! The bits of an order by values of a circuit.
+//! From the values of a circuit to the bits of an order that is worth trying.
 
 use std::alloc::{AllocError, Global};
 use wh_order_demands::Spot;
@@ -7,9 +7,9 @@ use wh_types::{counted, sum};
 // Precedences are raised so often at most.
 const MOST_ROUNDS: u32 = 100;
 
-/// The bits of orders, where these are the values of a circuit: for each symbol those of its places, as they are, and a
-/// precedence, which says how far symbols go down from it, of which each is greater than the next one. Nothing is
-/// promised of them.
+/// The bits of a guess at an order, from the values of a circuit. For each symbol the bits of its places are taken as
+/// they are. Its precedence says how far symbols go down from it, of which each is greater than the next one. Nothing
+/// is promised of the bits.
 pub fn guess_by(
     alloc: Global,
     values: &[bool],
@@ -147,7 +147,7 @@ fn push_places(values: &[bool], spot: Spot, made: &mut Vec<bool>) -> Result<(), 
     Ok(())
 }
 
-// So many bits of the number join, the lowest one first.
+// The lowest `count` bits of the number join, the lowest one first.
 fn push_number(number: usize, count: usize, made: &mut Vec<bool>) -> Result<(), AllocError> {
     let mut left = number;
     for _ in 0..count {

@@ -1,4 +1,4 @@
-//! Orders by a circuit.
+//! Orders by a circuit over the bits that write them. `orders_by_circuit` is the main function.
 
 ghost use Rattle.std.specs.Prelude.{◌≡◌, IfOk};
 ghost use Rattle.wh_pairs.specs.Marked.{AreMarked};
@@ -23,7 +23,7 @@ pub enum Circuited {
     Nothing,
     /// Values of the bits of orders that are worth trying first; nothing is promised of them.
     First(Vec<bool>),
-    /// Nothing.
+    /// The circuit tells nothing.
     Open,
 }
 

@@ -1,4 +1,4 @@
-//! What is demanded of the bits for the sides of rules and of pairs.
+//! Demands on the bits of orders, made of the sides of rules and of pairs.
 
 ghost use Rattle.std.specs.Prelude.{◌≡◌, ◌<◌, IfOk, Some, length, map, slice_get};
 ghost use Rattle.wh_terms.specs.Erase.{tm};
@@ -25,7 +25,7 @@ use wh_system::System;
 use wh_terms::{Term, Terms};
 use wh_types::{Or, counted, sum};
 
-// Claims are followed so deep, and so many of them in all.
+// How deep claims are followed; `MOST_CLAIMS` bounds how many are followed in all.
 const ROOM: u32 = 400;
 
 const MOST_CLAIMS: u32 = 1_000_000;

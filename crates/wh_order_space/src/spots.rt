@@ -1,4 +1,4 @@
-//! Where the bits of all symbols stand.
+//! Spots: where the bits of all symbols and marked symbols stand.
 
 ghost use Rattle.std.specs.Prelude.{◌≡◌, ◌+◌, ℕ, IfOk, OnOk, Some, length, slice_get};
 ghost use Rattle.wh_order_space.specs.Spotted.{AreSpotted, IsNumber, IsSpotted};
@@ -7,8 +7,8 @@ use std::alloc::{AllocError, Global};
 use wh_order_demands::Spot;
 use wh_types::{SimpleType, counted};
 
-/// Where the bits of each symbol stand, and behind those of all symbols the same of marked symbols, each at the number
-/// of its symbol; `None` for a symbol whose mark is not listed.
+/// Where the bits of each symbol stand. The symbols come first and then the marked symbols, each at the number of its
+/// symbol behind them; `None` for a symbol whose mark is not listed.
 pub fn spots_of(
     alloc: Global,
     symbols: usize,
@@ -25,7 +25,7 @@ pub fn spots_of(
     Ok(spots)
 }
 
-// So many spots join, those of the next symbols.
+// The spots of the next `symbols` symbols join.
 fn add_spots(
     symbols: usize,
     marked: &[u32],

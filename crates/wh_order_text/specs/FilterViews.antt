@@ -1,4 +1,4 @@
--- What the values of the reader of filters stand for.
+-- The states of the reader of filters that the values of its code stand for.
 use Rattle.std.specs.Prelude.{ℕ, drop}
 use Rattle.wh_order_inference.specs.Said.{written_filter}
 use Rattle.wh_order_text.specs.FilterMachine as m

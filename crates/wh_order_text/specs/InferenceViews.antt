@@ -1,4 +1,4 @@
--- What the values of the reader of inferences stand for.
+-- The states of the reader of inferences that the values of its code stand for.
 use Rattle.std.specs.Prelude.{ℕ, List, [], ◌∷◌}
 use Rattle.wh_order_inference.specs.Said.{letter, inference, inferences}
 use Rattle.wh_order_text.specs.InferenceMachine as m

@@ -1,4 +1,4 @@
-//! Argument filters, byte by byte.
+//! The reader of argument filters, byte by byte. `FilterText::step` is its main function.
 
 ghost use Rattle.std.specs.Prelude.{◌≡◌, IfOk};
 ghost use Rattle.wh_order_inference.specs.FilterText.{keeps};
@@ -21,24 +21,24 @@ pub enum FilterWord {
     Pick,
 }
 
-/// How far a filter was read; the numbers that have ended stand in the text itself.
+/// How far a filter was read. The numbers that have ended stand in the text itself.
 #[derive(Clone, Copy)]
 pub enum FilterPlace {
-    /// Nothing of it.
+    /// No byte of the filter.
     Wanted,
-    /// That many bytes of a word.
+    /// The first bytes of this word, as many as the number says.
     Word(FilterWord, usize),
     /// `keep `.
     PrecWanted,
-    /// That and digits.
+    /// `keep ` and digits of the precedence.
     Prec(u32),
-    /// The numbers so far, and a space.
+    /// `keep `, the numbers so far, and a space.
     PlaceWanted,
-    /// These and digits.
+    /// `keep `, the numbers so far, and digits of a place.
     Place(u32),
     /// `pick `.
     PickWanted,
-    /// That and digits.
+    /// `pick ` and digits of the place.
     Pick(u32),
 }
 
@@ -53,14 +53,14 @@ pub struct FilterText {
     pub places: Numbers,
 }
 
-/// Where a byte leads.
+/// Where a byte leads the reader.
 #[derive(Drop)]
 pub enum FilterStep {
-    /// On.
+    /// The filter goes on with the byte.
     On,
-    /// Out of the filter, which ended before the byte.
+    /// The filter has ended before the byte.
     Ended(Filter),
-    /// Nowhere.
+    /// The byte is wrong.
     Wrong,
 }
 
@@ -75,7 +75,7 @@ fn bytes_of(word: FilterWord) -> &'static [u8]
 }
 
 impl FilterText {
-    /// Before a filter.
+    /// The reader before a filter.
     pub fn new(alloc: Global) -> FilterText
         ensures { filter_place result ≡ wanted }
     {
@@ -86,7 +86,7 @@ impl FilterText {
         }
     }
 
-    /// The step from a place in a filter.
+    /// Takes one more byte.
     pub fn step(&mut self, alloc: Global, byte: u8) -> Result<FilterStep, AllocError>
         ensures { IfOk result (λ s. went self.new byte s ≡ leads (filter_place self.old) byte) }
     {

@@ -1,4 +1,5 @@
-//! Inferences, byte by byte.
+//! The reader of inferences, byte by byte. `InferenceText::step` is its main function. A stack has the inferences whose
+//! parentheses are open.
 
 ghost use Rattle.std.specs.Prelude.{◌≡◌, suc, nat_lt, ℕ, Some, None, IfOk, OnOk, MatchOption};
 ghost use Rattle.wh_order_inference.specs.Inferences.{no_parts, infer};
@@ -14,56 +15,56 @@ use std::mem;
 use wh_cert_letters::{first_number, next_number};
 use wh_order_inference::{Inference, Inferences, Letter};
 
-/// Inferences nest that deep.
+/// How deep inferences may nest.
 const DEEPEST_INFERENCE: usize = 64;
 
 /// How far an inference was read since its last open parenthesis.
 #[derive(Clone, Copy)]
 pub enum InferencePlace {
-    /// Nothing of an inference, which comes.
+    /// No byte of the inference that comes.
     Wanted,
     /// A letter that a place follows.
     PlaceWanted(Letter),
-    /// That and digits.
+    /// A letter that a place follows, and digits of the place.
     Placed(Letter, u32),
     /// A letter that parts follow.
     PartsWanted(Letter),
-    /// A letter, what its place is, and `(`.
+    /// A letter, its place if it has one, and `(`.
     Begun(Letter, u32),
-    /// An inference that has ended, which stands in the text itself.
+    /// A whole inference, which stands in the text itself.
     Behind,
 }
 
 /// An inference whose parenthesis is open.
 #[derive(Drop)]
 pub struct OpenInference {
-    /// Its letter.
+    /// The letter of the inference.
     pub letter: Letter,
-    /// Its place, 0 where none is written.
+    /// The place of the inference, 0 where none is written.
     pub place: u32,
-    /// Its parts that have ended.
+    /// The parts of the inference that have ended.
     pub parts: Inferences,
 }
 
-/// An inference so far.
+/// An inference as far as it was read.
 #[derive(Drop)]
 pub struct InferenceText {
-    /// Those whose parentheses are open.
+    /// The inferences whose parentheses are open.
     pub stack: Vec<OpenInference>,
-    /// How far it was read since.
+    /// How far the innermost one was read since.
     pub place: InferencePlace,
-    /// The one that ended last.
+    /// The inference that ended last.
     pub last: Inference,
 }
 
-/// Where a byte leads.
+/// Where a byte leads the reader.
 #[derive(Drop)]
 pub enum InferenceStep {
-    /// On.
+    /// The inference goes on with the byte.
     On,
-    /// Out of the inference, which ended before the byte.
+    /// The whole inference has ended before the byte.
     Ended(Inference),
-    /// Nowhere.
+    /// The byte is wrong.
     Wrong,
 }
 
@@ -132,7 +133,7 @@ fn pop_open(stack: &mut Vec<OpenInference>) -> Option<OpenInference>
     stack.pop()
 }
 
-/// An inference may have parts whose parentheses are in those of the stack.
+/// Whether one more inference may have its parts within those of the stack.
 #[tactic(auto, using(crate::proofs::InferenceCode::level_is))]
 fn has_room(stack: &[OpenInference]) -> bool
     ensures { result ≡ nat_lt (suc (level (inference_stack stack.now))) deepest_inference }
@@ -141,7 +142,7 @@ fn has_room(stack: &[OpenInference]) -> bool
 }
 
 impl InferenceText {
-    /// Before an inference.
+    /// The reader before an inference.
     pub fn new(alloc: Global) -> Result<InferenceText, AllocError>
         ensures stack { IfOk result (λ text. inference_stack text.stack.items ≡ outside) }
         ensures place { IfOk result (λ text. inference_place text ≡ wanted) }
@@ -153,7 +154,7 @@ impl InferenceText {
         })
     }
 
-    /// The step from a place in an inference.
+    /// Takes one more byte.
     pub fn step(&mut self, alloc: Global, byte: u8) -> Result<InferenceStep, AllocError>
         ensures { IfOk result (λ s. went self.new byte s ≡ leads (inference_stack self.old.stack.items) (inference_place self.old) byte) }
     {
@@ -267,7 +268,7 @@ impl InferenceText {
         self.begin(alloc, byte)
     }
 
-    /// An inference has ended before the byte: the whole, or a part of the one around it.
+    /// An inference has ended before the byte: the whole one, or a part of the one around it.
     fn end_inference(&mut self, alloc: Global, byte: u8) -> Result<InferenceStep, AllocError>
         ensures { IfOk result (λ s. went self.new byte s
             ≡ behind_inference (inference_stack self.old.stack.items) (inference self.old.last) byte) }

@@ -11,8 +11,8 @@ ghost use Rattle.wh_order_text.specs.FiltersRead as r;
 ghost use Rattle.wh_order_text.specs.InferenceMachine.{scan, start, read};
 ghost use Rattle.wh_order_text.specs.InferencesRead.{Led};
 
-/// Bytes that the reader goes along begin a line that is an inference, bytes behind which it has read an inference are
-/// the text of that, and bytes that it refuses begin no such line.
+/// Bytes that the reader goes along begin a line that is an inference. Bytes behind which it has read an inference are
+/// the text of that inference. Bytes that it refuses begin no such line.
 pub fn inference_led()
     ensures { (bytes : List ℕ) → Led (scan start bytes) bytes }
 {}
@@ -45,8 +45,8 @@ pub fn depth_within()
     ensures { (i : Inference) → InferenceFits 0 i → depth i ≤ deepest_inference }
 {}
 
-/// Bytes that the reader goes along begin a line that is a filter, bytes behind which it has read a filter are the text
-/// of that, and bytes that it refuses begin no such line.
+/// Bytes that the reader goes along begin a line that is a filter. Bytes behind which it has read a filter are the text
+/// of that filter. Bytes that it refuses begin no such line.
 pub fn filter_led()
     ensures { (bytes : List ℕ) → r.Led (f.scan f.start bytes) bytes }
 {}

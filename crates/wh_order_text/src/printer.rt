@@ -1,5 +1,5 @@
-//! The texts of inferences and filters. Each printer appends to a list of bytes; without memory the list may have got a
-//! front of the text.
+//! The texts of inferences and filters. Each printer appends to a list of bytes. Where memory is wanting the list may
+//! have got the first bytes of the text.
 
 ghost use Rattle.std.specs.Prelude.{◌≡◌, ◌↔◌, IsTrue, OnOk};
 ghost use Rattle.wh_text.specs.Pushes.{Pushes};
@@ -32,7 +32,7 @@ fn sign_of(letter: Letter) -> u8
     }
 }
 
-/// A letter behind which nothing stands.
+/// Whether nothing stands behind the letter.
 fn is_alone(letter: Letter) -> bool
     ensures { IsTrue result ↔ (form (s.letter letter) ≡ alone) }
 {

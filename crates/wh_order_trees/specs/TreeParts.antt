@@ -22,7 +22,7 @@ Over n w t = IsOver n w.symbols w.metas t
 abbrev pub AllOver : ℕ → World → List Tree → Type 0
 AllOver n w ts = EachOver n w.symbols w.metas ts
 
--- these are the arguments of the spine
+-- the list has the arguments of the spine that the tree is
 abbrev pub HasArguments : Tree → List Tree → Type 0
 HasArguments t ts = (n : ℕ) (w : World) → Over n w t → (arguments_of (tree n t) ≡ trees n ts) × AllOver n w ts
 
@@ -31,7 +31,7 @@ abbrev pub item_at : List Tm → ℕ → Option Tm
 item_at ts zero = None
 item_at ts (suc k) = slice_get ts k
 
--- this is the argument at a place, counted from 1
+-- the answer is the argument of the tree at a place, counted from 1
 abbrev pub IsArgument : Tree → ℕ → Option (Bor Tree) → Type 0
 IsArgument t place None = (n : ℕ) (w : World) → Over n w t → item_at (arguments_of (tree n t)) place ≡ None
 IsArgument t place (Some u) = (n : ℕ) (w : World) → Over n w t → (item_at (arguments_of (tree n t)) place ≡ Some (tree n u.now)) × Over n w u.now

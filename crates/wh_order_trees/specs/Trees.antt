@@ -8,7 +8,7 @@ use Rattle.wh_order_extended.specs.Kinds.{type_at, out_at, codomain}
 use Rattle.wh_order_trees.specs.declared.tree.Tree.{Tree, Row_of-Tree, end_of-Tree, more_of-Tree}
 use Rattle.wh_order_trees.specs.declared.tree.Tree.TheVariants.{Bound, Free, Meta', Sym', Mark', Lam', Apply'}
 
--- the type of a spine with so many arguments, where its head has this type
+-- the type of a spine with n arguments, where its head has this type
 abbrev pub spine_type : Ty → ℕ → Ty
 spine_type a zero = a
 spine_type a (suc n) = spine_type (codomain a) n
@@ -26,7 +26,7 @@ module _ (n : ℕ) where
     tree (Lam' a p t) = lam (ty a) (tree t)
     tree (Apply' p t shape all) = spine (tree t) (row all)
 
-    -- and those of its arguments
+    -- the trees of a node's arguments
     pub row : {m : _} → Row_of-Tree m → List Tm
     row end_of-Tree = []
     row (more_of-Tree t rest) = tree t ∷ row rest
@@ -60,7 +60,7 @@ module _ (n : ℕ) (F : Symbols) (M : List Declared) where
     AreOver end_of-Tree = Unit {0}
     AreOver (more_of-Tree t rest) = IsOver t × AreOver rest
 
-  -- and so each tree of a list
+  -- each tree of a list is over the signature
   abbrev pub EachOver : List Tree → Type 0
   EachOver [] = Unit {0}
   EachOver (t ∷ ts) = IsOver t × EachOver ts

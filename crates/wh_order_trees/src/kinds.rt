@@ -1,4 +1,4 @@
-//! The types of trees.
+//! The types of filtered trees. `have_one_type` is the test that the check of the path order needs.
 
 ghost use Rattle.std.specs.Prelude.{ℕ, ◌≡◌, ◌↔◌, [], IfOk, IsTrue, OnOk, length};
 ghost use Rattle.wh_types.specs.Erase.{ty};
@@ -64,7 +64,7 @@ fn kind_of(alloc: Global, t: &Tree) -> Result<SimpleType, AllocError>
     kind_under(alloc, &mut binders, t)
 }
 
-// The same under binders of the types `binders`, the outermost first.
+// The type of a tree below binders of the types `binders`, the outermost first.
 fn kind_under<'a>(
     alloc: Global,
     binders: &mut Vec<&'a SimpleType>,
@@ -110,7 +110,7 @@ fn kind_of_binder(
     }
 }
 
-// The type of what has this type once it has so many arguments.
+// The type that a function of the type `kind` has behind `count` arguments.
 fn kind_behind(kind: SimpleType, count: usize) -> SimpleType
     ensures { ty result ≡ spine_type (ty kind) count }
 {

@@ -1,5 +1,5 @@
-//! Trees that argument filters leave of sides of rules and of pairs, as data: their parts, their types, and whether two
-//! of them are the same. A path order compares such trees.
+//! Trees that argument filterings leave of sides of rules and of pairs, as data: their parts, their types, and whether
+//! two of them are equal. A path order compares such trees.
 #![tactic(auto)]
 
 mod kinds;

@@ -1,4 +1,4 @@
-//! What the check looks at in a tree.
+//! The parts of a filtered tree that the check of an inference looks at.
 
 ghost use Rattle.std.specs.Prelude.{ℕ, ◌≡◌, IfSome};
 ghost use Rattle.wh_order_trees.specs.Trees.{tree};

@@ -1,4 +1,4 @@
-//! Equality of trees.
+//! Equality of filtered trees, and of lists of them.
 
 ghost use Rattle.std.specs.Prelude.{ℕ, ◌≡◌, ◌↔◌, ◌<◌, ◌≤◌, ◌+◌, ◌-◌, IsTrue, length, take};
 ghost use Rattle.wh_types.specs.Erase.{ty};

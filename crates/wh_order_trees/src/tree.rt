@@ -1,4 +1,5 @@
-//! Filtered trees, as data.
+//! Filtered trees as data: terms behind argument filterings, where all sorts are one. The check of a path order
+//! compares them.
 
 use wh_types::{List, SimpleType};
 

@@ -19,7 +19,7 @@ unfoldable pub freed : ℕ → List Ty → ℕ → Tm
 freed x [] = bound
 freed x (a ∷ Γ) = cons (meta (x + length Γ) none) (freed x Γ)
 
--- so many meta-variables of arity 0, numbered from x on
+-- n meta-variables of arity 0, numbered from x on
 abbrev pub numbered_from : ℕ → ℕ → List Tm
 numbered_from x zero = []
 numbered_from x (suc n) = meta x none ∷ numbered_from (x + 1) n

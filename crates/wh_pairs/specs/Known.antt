@@ -1,4 +1,4 @@
--- What is known of the symbols in a system's trees.
+-- Facts on the symbols in a system's trees: their numbers are declared, and their types have enough arguments.
 use Rattle.std.specs.Prelude.{ℕ, ◌<◌, ◌≤◌, length, get_or}
 use Rattle.wh_types.specs.Ty.{sort, arguments}
 use Rattle.wh_terms.specs.Tree.{Tm, fun, meta, lam, app, Tms, none, more}

@@ -1,4 +1,4 @@
--- Dependency pairs without pointers.
+-- Dependency pairs as data, without pointers.
 use Rattle.std.specs.Prelude.{ℕ, ◌<◌, List, [], ◌∷◌, map}
 use Rattle.wh_terms.specs.Tree.{Tm}
 use Rattle.wh_terms.specs.Typing.{Declared}

@@ -1,4 +1,4 @@
--- The dependency pairs of a system.
+-- `HasPairs`: a list has the dependency pairs of a system, and they are not too many.
 use Rattle.std.specs.Prelude.{◌<◌, ◌≤◌, List, length}
 use Rattle.wh_types.specs.Limits.{most_pairs}
 use Rattle.wh_system.specs.Systems.{SystemData}
@@ -6,7 +6,7 @@ use Rattle.wh_pairs.specs.PairData.{PairData}
 use Rattle.wh_pairs.specs.Candidates.{candidates}
 use Rattle.wh_pairs.specs.Subsumption.{ArePairs}
 
--- these are the dependency pairs of the system, and there are at most 4,096
+-- the list has the dependency pairs of the system, and there are at most 4,096
 pub record HasPairs (d : SystemData) (ps : List PairData) : Type 0 where
   pub are : ArePairs (candidates d.symbols d.rules) ps
   pub few : length ps ≤ most_pairs

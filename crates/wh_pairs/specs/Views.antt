@@ -1,4 +1,4 @@
--- What lists of pairs stand for.
+-- The data that a list of pairs of the program stands for.
 use Rattle.std.specs.Prelude.{List, map}
 use Rattle.wh_pairs.specs.PairData.{PairData, pair_data}
 use Rattle.wh_pairs.specs.declared.pair.Pair.{Pair}

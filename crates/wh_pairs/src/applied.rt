@@ -1,4 +1,4 @@
-//! A side of a pair as a term.
+//! A side of a pair as a term: the symbol with its arguments.
 
 ghost use Rattle.std.specs.Prelude.{◌≡◌, IfOk, map};
 ghost use Rattle.wh_terms.specs.Erase.{tm};

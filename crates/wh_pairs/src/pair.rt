@@ -1,4 +1,4 @@
-//! Dependency pairs as data.
+//! Dependency pairs as data, and sets of them by their numbers.
 
 ghost use Rattle.std.specs.Prelude.{◌≡◌, ◌<◌, [], ◌∷◌, ◌++◌, IfOk, OnOk, OnErr, All};
 ghost use Rattle.wh_pairs.specs.PairData.{IsIncreasing};
@@ -9,8 +9,8 @@ use std::rc::Rc;
 use wh_terms::{Metas, Terms};
 use wh_types::List;
 
-/// That a call stands within an argument of a meta-variable on the right side: the meta-variable and the place of the
-/// argument, counted from 1.
+/// A call stands within an argument of a meta-variable on the right side: the meta-variable, and which of its arguments
+/// that is, counted from 1.
 #[derive(Clone, Copy, PartialEq, Eq)]
 pub struct Condition {
     /// The number of the meta-variable.

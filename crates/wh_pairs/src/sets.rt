@@ -1,4 +1,4 @@
-//! Sets of pairs, made from lists of their numbers.
+//! Sets of pairs, made from lists of their numbers: sorted, each number once.
 
 ghost use Rattle.std.specs.Prelude.{◌≡◌, ◌↔◌, ◌<◌, ℕ, All, Contains, IfOk, IsTrue};
 ghost use Rattle.std.specs.List.Sorted.{IsNonDecreasing};
@@ -52,7 +52,7 @@ fn is_above(set: &PairSet, number: u32) -> bool
     }
 }
 
-/// The set of what is not dropped.
+/// The pairs of the set that are not dropped.
 pub fn kept(alloc: Global, set: &PairSet, drop: &[u32]) -> Result<PairSet, AllocError>
     ensures { IfOk result (IsSetOf (IsKept set.now drop.now)) }
 {

@@ -1,4 +1,4 @@
--- The calls in several parts of a right side.
+-- The calls in several parts of a right side, one part after another.
 use Rattle.std.specs.Prelude.{List, [], ◌∷◌, ◌++◌}
 use Rattle.wh_types.specs.Ty.{Ty}
 use Rattle.wh_terms.specs.Tree.{Tm}

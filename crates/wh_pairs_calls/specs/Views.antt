@@ -1,4 +1,4 @@
--- What calls and lists of references stand for.
+-- The data that calls of the program, and lists of references to terms, stand for.
 use Rattle.std.specs.Prelude.{List, map}
 use Rattle.std.specs.Borrow.{Bor}
 use Rattle.wh_terms.specs.Tree.{Tm}

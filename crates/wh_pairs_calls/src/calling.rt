@@ -83,7 +83,7 @@ fn add_calls<'a>(
     add_each(alloc, system, around, spine.arguments.as_slice(), found)
 }
 
-// The same for the head of a spine, which stands before the spine's arguments.
+// Adds the calls in the head of a spine. The spine itself is the first of them where a defined symbol heads it.
 #[cycle(calls)]
 fn add_head<'a>(
     alloc: Global,
@@ -125,7 +125,7 @@ fn add_head<'a>(
     }
 }
 
-// The same for each of the arguments of a spine.
+// Adds the calls in each argument of a spine.
 #[cycle(calls)]
 fn add_each<'a>(
     alloc: Global,
@@ -144,7 +144,8 @@ fn add_each<'a>(
     Ok(())
 }
 
-// The same for each of the arguments of a meta-variable, which is a condition for the calls in it.
+// Adds the calls in each argument of a meta-variable. That a call stands within that argument is one more of its
+// conditions.
 #[cycle(calls)]
 fn add_within<'a>(
     alloc: Global,

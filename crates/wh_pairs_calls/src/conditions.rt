@@ -1,4 +1,4 @@
-//! The conditions of a call, in increasing order.
+//! The conditions of a call, a list in increasing order: a further condition joins at its place.
 
 ghost use Rattle.std.specs.Prelude.{◌≡◌, IfOk, map};
 ghost use Rattle.wh_pairs.specs.PairData.{within};

@@ -1,4 +1,4 @@
-//! A spine taken apart.
+//! A spine taken apart: its head and its arguments from left to right.
 
 ghost use Rattle.std.specs.Prelude.{◌≡◌, IfOk};
 ghost use Rattle.wh_terms.specs.Erase.{tm};

@@ -35,7 +35,7 @@ fn constant(alloc: Global, kind: &SimpleType) -> Result<MetaDecl, AllocError>
     })
 }
 
-// The same declaration once more.
+// A copy of the declaration.
 fn copy_declaration(alloc: Global, declaration: &MetaDecl) -> Result<MetaDecl, AllocError>
     ensures { IfOk result (λ copy. declared_meta copy ≡ declared_meta declaration.now) }
 {
@@ -49,7 +49,7 @@ fn copy_declaration(alloc: Global, declaration: &MetaDecl) -> Result<MetaDecl, A
     })
 }
 
-// The same declarations once more.
+// Copies of the declarations, in order.
 fn copy_metas(alloc: Global, metas: &Metas) -> Result<Metas, AllocError>
     ensures { IfOk result (λ copies. declared_metas copies ≡ declared_metas metas.now) }
 {
@@ -101,7 +101,7 @@ fn left_arguments(alloc: Global, arguments: &[&Term]) -> Result<Terms, AllocErro
     Ok(left)
 }
 
-// Puts so many meta-variables of arity 0 behind the arguments, numbered from `first` on.
+// Puts `count` meta-variables of arity 0 behind the arguments, numbered from `first` on.
 fn add_missing(
     alloc: Global,
     mut arguments: Terms,
@@ -148,7 +148,7 @@ fn symbol_of(head: &Term) -> u32
 pub struct LeftSide {
     /// The symbol that heads it.
     pub symbol: u32,
-    /// Its arguments.
+    /// The arguments of the left side.
     pub arguments: Rc<Terms>,
 }
 

@@ -1,4 +1,4 @@
-//! The conditions of a pair.
+//! The conditions of a pair: copies of them, and whether one list has all of another.
 
 ghost use Rattle.std.specs.Prelude.{◌≡◌, ◌↔◌, IfOk, IsTrue, map};
 ghost use Rattle.wh_pairs.specs.PairData.{within};

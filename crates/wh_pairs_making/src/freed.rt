@@ -82,7 +82,7 @@ fn freed_under(alloc: Global, by: &Freeing<'_>, term: &Term, depth: u32) -> Resu
     }
 }
 
-// The same for each of the arguments of a meta-variable.
+// The arguments of a meta-variable, `depth` binders further below, with meta-variables for the bound variables.
 #[cycle(freed)]
 #[tactic(auto, using(wh_terms::proofs::WalkLemmas::acts_push, wh_terms::proofs::WalkLemmas::acts_none))]
 fn freed_each(

@@ -1,4 +1,4 @@
-//! When one pair makes another one needless.
+//! Subsumption: when one candidate makes another one of its rule needless.
 
 ghost use Rattle.std.specs.Prelude.{◌≡◌, ◌↔◌, ℕ, IsTrue, map, slice_get, option_map};
 ghost use Rattle.wh_types.specs.Erase.{ty, tys};
@@ -81,7 +81,7 @@ fn are_declared_alike(a: &Metas, b: &Metas, term: &Term) -> bool
     }
 }
 
-// The same for the terms of a list.
+// Whether each meta-variable that occurs in one of the terms is declared alike.
 #[cycle(alike)]
 fn all_declared_alike(a: &Metas, b: &Metas, items: &Terms) -> bool
     ensures { IsTrue result ↔ ((z : ℕ) → OccursIn z (tms items.now)

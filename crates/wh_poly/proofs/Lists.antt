@@ -32,7 +32,7 @@ atoms_is us = ap atoms (is-Atoms' us) ∙ product_items _ (hidden-the_row-Atom-0
 pub polys_is : (ps : Polys) → polys ps ≡ arguments_of (list ps)
 polys_is ps = ap polys (is-Polys' ps) ∙ arguments_items _ (hidden-the_row-Poly-2 (out-Polys ps).items) ∙ ap arguments_of (items_hidden-the_row-Poly-2 (out-Polys ps).items)
 
--- the same of two values and their lists
+-- two polynomials compare as the lists of their monomials do
 pub polys_by_lists : (p q : Poly) (xs ys : List Monomial) → xs ≡ monomials p → ys ≡ monomials q → compare_polynomials (poly p) (poly q) ≡ compare_polynomials (sum_of xs) (sum_of ys)
 polys_by_lists p q xs ys e k = ap₂ compare_polynomials (poly_is p ∙ ap sum_of (sym e)) (poly_is q ∙ ap sum_of (sym k))
 

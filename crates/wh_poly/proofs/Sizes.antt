@@ -37,7 +37,7 @@ size_in_arguments [] i p h e = absurd (omega (arith, h))
 size_in_arguments (x ∷ xs) zero p h e = let k = ap (λ p. size (poly p)) e in omega (arith, k)
 size_in_arguments (x ∷ xs) (suc i) p h e = let k = size_in_arguments xs i p (omega (arith, h)) e in omega (arith, k)
 
--- the same where the list is that of a value
+-- the factors of a monomial are smaller than the polynomial, where the list is that of its monomials
 pub smaller_factors : (p : Poly) (xs : List Monomial) (i : ℕ) (m : Monomial) → xs ≡ monomials p → i < length xs → m ≡ get_or xs i m
     → size_of_factors (atoms (out-Monomial m).atoms) < size (poly p)
 smaller_factors p xs i m l h e = subst (λ q. size_of_factors (atoms (out-Monomial m).atoms) < size q) (ap sum_of l ∙ sym (poly_is p)) (size_in_sum xs i m h e)

@@ -1,4 +1,4 @@
--- What it means that a value exceeds in the way that is named.
+-- `ExceedsAs`: a value exceeds the limit that a fault names.
 use Rattle.wh_poly.specs.Polynomials.{Polynomial}
 use Rattle.wh_poly.specs.Limits.{Overflows, TooLarge}
 use Rattle.wh_poly.specs.declared.excess.Excess.{Excess}

@@ -16,7 +16,7 @@ mutual
     no_factors : Factors
     times : (x : ℕ) (ps : Arguments) (rest : Factors) → Factors
 
-  -- and each argument is a polynomial, in a scope with variables of its own (Fuhs and Kop 2012)
+  -- the arguments of a variable: each is a polynomial, in a scope with variables of its own (Fuhs and Kop 2012)
   pub data Arguments : Type 0 where
     no_arguments : Arguments
     argument : (p : Polynomial) (rest : Arguments) → Arguments
@@ -45,7 +45,7 @@ abbrev mutual
   compare_factors (times x ps us) (times y qs vs) =
       ordering_then (ordering_then (nat_cmp x y) (compare_arguments ps qs)) (compare_factors us vs)
 
-  -- and arguments from left to right (ours)
+  -- the order of two lists of arguments, which are compared from left to right (ours)
   pub compare_arguments : Arguments → Arguments → Ordering
   compare_arguments no_arguments no_arguments = Equal
   compare_arguments no_arguments (argument q qs) = Less
@@ -96,7 +96,7 @@ abbrev pub OrderedFactors : Factors → Type 0
 OrderedFactors no_factors = Unit {0}
 OrderedFactors (times x ps us) = FactorBefore x ps us × OrderedFactors us
 
--- what is asked of a normal polynomial, but for its scope and its arguments (ours)
+-- a polynomial is in order: what `Normal` says of it, but for its scope and its arguments (ours)
 abbrev pub Ordered : Polynomial → Type 0
 Ordered zero_poly = Unit {0}
 Ordered (plus c us p) = 1 ≤ c × OrderedFactors us × MonomialBefore us p × Ordered p

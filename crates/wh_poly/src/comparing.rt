@@ -1,7 +1,7 @@
 //! The order of polynomials. A walk goes over both lists with one index, and the first difference decides.
 //!
 //! Most factors have no arguments. So what is done for each factor stands in the walks themselves (`inline`), and what
-//! is done for arguments does not; the same holds of copies and of weights.
+//! is done for arguments stands in functions of their own. Copies and weights are made in that way too.
 
 ghost use Rattle.std.specs.Prelude.{◌≡◌, IsTrue};
 ghost use Rattle.std.specs.declared.cmp.Ordering.TheVariants.{Equal};
@@ -12,7 +12,8 @@ ghost use Rattle.wh_poly.specs.declared.polynomial.Atom.{out-Atom};
 use crate::polynomial::{Atom, Atoms, Poly, Polys};
 use std::cmp::Ordering;
 
-/// The order of two polynomials: by their monomials, one by its factors, then by its coefficient.
+/// The order of two polynomials. Monomials are compared from the first on, each by its factors and then by its
+/// coefficient.
 #[cycle(order)]
 pub fn order(a: &Poly, b: &Poly) -> Ordering
     ensures { result ≡ compare_polynomials (poly a.now) (poly b.now) }
@@ -36,7 +37,8 @@ pub fn order(a: &Poly, b: &Poly) -> Ordering
     }
 }
 
-/// The order of two lists of factors: by their factors, one by its variable's number, then by its arguments.
+/// The order of two lists of factors. Factors are compared from the first on, each by its variable's number and then by
+/// its arguments.
 #[cycle(order)]
 pub fn order_factors(a: &Atoms, b: &Atoms) -> Ordering
     ensures { result ≡ compare_factors (atoms a.now) (atoms b.now) }
@@ -62,7 +64,7 @@ pub fn order_factors(a: &Atoms, b: &Atoms) -> Ordering
     }
 }
 
-/// Whether both are the same variable without arguments, as most factors of a common front are.
+/// Whether the two factors are one variable without arguments, as most factors at a common beginning are.
 #[inline(always)]
 pub fn is_same_variable(a: &Atom, b: &Atom) -> bool
     ensures { IsTrue result → compare_factor (out-Atom a.now).head (polys (out-Atom a.now).args) (out-Atom b.now).head

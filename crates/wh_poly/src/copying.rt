@@ -1,4 +1,4 @@
-//! Copies of polynomials.
+//! Copies of polynomials, of their factors and of their arguments.
 
 ghost use Rattle.std.specs.Prelude.{◌≡◌, ◌++◌, [], ◌∷◌, IfOk, OnOk};
 ghost use Rattle.wh_poly.specs.Erase.{poly, atoms, polys, factors, product_of};

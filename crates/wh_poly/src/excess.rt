@@ -1,4 +1,4 @@
-//! How a value exceeds the limits.
+//! The limits that a value can exceed: of its coefficients, or of its weight and nesting.
 
 /// The limit that a value exceeds.
 #[derive(Clone, Copy)]

@@ -1,4 +1,4 @@
-//! Laws of polynomials, each the contract of a function that does nothing.
+//! Laws of polynomials: of sums and products, of their order, and of sums that exceed a limit.
 
 ghost use Rattle.std.specs.Prelude.{ℕ, ◌⊎◌, List, ◌↔◌, ◌≡◌};
 ghost use Rattle.std.specs.declared.cmp.Ordering.TheVariants.{Less, Equal};
@@ -18,12 +18,12 @@ pub fn products_are_normal()
     ensures { (scope : List Ty) (p q : Polynomial) → Normal scope p → Normal scope q → Normal scope (multiply p q) }
 {}
 
-/// In a sum of normal polynomials their order does not matter.
+/// Two normal polynomials have the same sum in either order.
 pub fn sums_commute()
     ensures { (scope : List Ty) (p q : Polynomial) → Normal scope p → Normal scope q → sum_poly p q ≡ sum_poly q p }
 {}
 
-/// Nor does it matter which are added first.
+/// Three normal polynomials have the same sum whichever two are added first.
 pub fn sums_associate()
     ensures { (scope : List Ty) (p q r : Polynomial) → Normal scope p → Normal scope q → Normal scope r
         → sum_poly (sum_poly p q) r ≡ sum_poly p (sum_poly q r) }
@@ -48,7 +48,7 @@ pub fn equal_polynomials_compare_as_equal()
     ensures { (p q : Polynomial) → (compare_polynomials p q ≡ Equal) ↔ (p ≡ q) }
 {}
 
-/// Of two polynomials the other way round the order is the reverse.
+/// Two polynomials the other way round compare in the reverse order.
 pub fn comparing_is_reversed()
     ensures { (p q : Polynomial) → compare_polynomials p q ≡ ordering_reverse (compare_polynomials q p) }
 {}

@@ -33,9 +33,9 @@ pub struct Atoms {
 #[cycle(poly)]
 #[derive(Drop)]
 pub struct Atom {
-    /// The variable's number in the scope.
+    /// The number of the variable in the scope.
     pub head: u32,
-    /// Its arguments, each in the scope that goes on with the variables of its type.
+    /// The arguments of the variable, each in the scope that goes on with the variables of its type.
     pub args: Polys,
 }
 
@@ -58,7 +58,7 @@ impl Poly {
         }
     }
 
-    /// The same, with room for so many monomials.
+    /// The polynomial 0, with room for `count` monomials.
     pub fn with_capacity(alloc: Global, count: usize) -> Result<Poly, AllocError>
         ensures { IfOk result (λ made. monomials made ≡ []) }
     {
@@ -76,7 +76,7 @@ impl Poly {
         Ok(())
     }
 
-    /// The other's monomials join at the end.
+    /// The monomials of the other polynomial join at the end.
     pub fn append(&mut self, other: Poly) -> Result<(), AllocError>
         ensures { OnOk result (monomials self.new ≡ monomials self.old ++ monomials other) }
     {
@@ -105,7 +105,7 @@ impl Poly {
 impl Atoms {
     ghost use Rattle.wh_poly.specs.Erase.{factors};
 
-    /// No factors.
+    /// The product without factors.
     pub fn new(alloc: Global) -> Atoms
         ensures { factors result ≡ [] }
     {
@@ -114,7 +114,7 @@ impl Atoms {
         }
     }
 
-    /// The same, with room for so many factors.
+    /// A product without factors, with room for `count` factors.
     pub fn with_capacity(alloc: Global, count: usize) -> Result<Atoms, AllocError>
         ensures { IfOk result (λ made. factors made ≡ []) }
     {
@@ -152,7 +152,7 @@ impl Atoms {
 impl Polys {
     ghost use Rattle.wh_poly.specs.Erase.{list};
 
-    /// No arguments.
+    /// The list without arguments.
     pub fn new(alloc: Global) -> Polys
         ensures { list result ≡ [] }
     {

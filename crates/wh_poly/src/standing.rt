@@ -1,4 +1,4 @@
-//! Whether factors stand before what follows them.
+//! Order of neighbours: whether a factor or a monomial stands before the next one, as normal forms ask.
 
 ghost use Rattle.std.specs.Prelude.{◌↔◌, IsTrue};
 ghost use Rattle.wh_poly.specs.Erase.{poly, atoms, polys, sum_of, product_of};
@@ -28,7 +28,7 @@ pub fn stands_not_after(atom: &Atom, rest: &[Atom]) -> bool
     }
 }
 
-/// Whether each monomial stands before the next; no claim where it does not answer yes.
+/// Whether each monomial stands before the next. Only the answer yes is claimed.
 pub fn is_ascending(p: &Poly) -> bool
     ensures { IsTrue result → Sorted (poly p.now) }
 {

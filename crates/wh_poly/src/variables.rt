@@ -1,4 +1,4 @@
-//! The variables that a type adds to a scope.
+//! The variables that a type adds to a scope: one for each of its arguments, as polynomials of their own.
 
 ghost use Rattle.std.specs.Prelude.{◌≡◌, ◌+◌, length, IfOk};
 ghost use Rattle.wh_types.specs.Erase.{ty};
@@ -11,8 +11,8 @@ use crate::polynomial::{Atom, Atoms, Monomial, Poly, Polys};
 use std::alloc::{AllocError, Global};
 use wh_types::SimpleType;
 
-/// One variable for each argument of the type, numbered from `first`, as arguments in a scope of so many variables.
-/// They are exponential in the depth of the type, so they are weighed before they are asked for.
+/// One variable for each argument of the type, numbered from `first`, as arguments in a scope of `count` variables.
+/// Their size is exponential in the depth of the type, so callers weigh them before they ask for them.
 pub fn added(alloc: Global, kind: &SimpleType, count: u32, first: u32) -> Result<Polys, AllocError>
     ensures { IfOk result (λ r. polys r ≡ added_variables (ty kind.now) count first) }
 {
@@ -43,7 +43,8 @@ pub fn one_factor(alloc: Global, head: u32, args: Polys) -> Result<Poly, AllocEr
     Ok(value)
 }
 
-/// The count of a scope with the arguments of the type. One beyond 32 bits is told as want of memory.
+/// The number of variables of a scope once the arguments of the type join it. Where it exceeds 32 bits the answer is
+/// want of memory.
 pub fn with_arguments(count: u32, kind: &SimpleType) -> Result<u32, AllocError>
     ensures { IfOk result (λ r. r ≡ count + length (arguments (ty kind.now))) }
 {

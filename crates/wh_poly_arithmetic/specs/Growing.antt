@@ -1,4 +1,4 @@
--- What a product that grows has come to.
+-- The product that the code of growing products has come to, and the room that it has left.
 use Rattle.std.specs.Prelude.{ℕ, ◌+◌, ◌*◌, ◌≤◌, ◌<◌, Option, None, Some}
 use Rattle.wh_types.specs.Limits.{coefficient_end, greatest_weight, deepest_value}
 use Rattle.wh_poly.specs.Polynomials.{Polynomial, Factors, plus, zero_poly, Ordered}
@@ -38,6 +38,6 @@ pub record LeavesRoom (p : Polynomial) (greatest coefficient : ℕ) (us : Factor
   pub first_shallow : nesting p ≤ deepest_value
   pub shallow : nesting_of_factors us ≤ deepest_value
 
--- the product is within the limits, and what is left of the weight is told (ours)
+-- the product is within the limits, and the number `left` says how much more its factors may weigh (ours)
 abbrev pub HasRoom : Growing → Type 0
 HasRoom g = LeavesRoom (first_value g.first) g.greatest g.coefficient (joined (factors g.factors)) g.left

@@ -1,4 +1,4 @@
--- What a sum of many polynomials has come to.
+-- The sum that the code of sums of many polynomials has come to.
 use Rattle.std.specs.Prelude.{ℕ, ◌≡◌, ◌+◌, ◌-◌, ◌≤◌, List, [], ◌∷◌, length, max, Option, None, Some}
 use Rattle.wh_types.specs.Limits.{greatest_weight, deepest_value}
 use Rattle.wh_poly.specs.Polynomials.{Polynomial, zero_poly, Ordered}
@@ -30,13 +30,15 @@ abbrev pub nesting_of_parts : List Poly → ℕ
 nesting_of_parts [] = 0
 nesting_of_parts (p ∷ ps) = max (nesting (poly p)) (nesting_of_parts ps)
 
--- q and the parts leave so much of the greatest weight, if it is told, and none of them nests too deep (ours)
+-- where the rest of the weight is known, q and the parts leave it of the greatest weight, and none of them nests too
+-- deep (ours)
 abbrev pub Leaves : Option ℕ → Polynomial → List Poly → Type 0
 Leaves None q ps = Unit {0}
 Leaves (Some left) q ps =
     ((weight q + weight_of_parts ps) + left ≤ greatest_weight) × (nesting q ≤ deepest_value) × (nesting_of_parts ps ≤ deepest_value)
 
--- what is left, if it is told, is what was left without q, which does not nest too deep (ours)
+-- where the new rest of the weight is known, it is the old one without the weight of q, which does not nest too deep
+-- (ours)
 abbrev pub IsTakenFrom : Option ℕ → Polynomial → Option ℕ → Type 0
 IsTakenFrom left q None = Unit {0}
 IsTakenFrom None q (Some rest) = ⊥

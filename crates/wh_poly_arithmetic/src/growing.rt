@@ -1,7 +1,7 @@
 //! A product that grows by one value after another. A single monomial is not multiplied in at once: its factors join
-//! those of the monomials before it in any order, and what they may still weigh is counted; they are put in order once,
-//! and multiplied in once. So what stands before a long row of factors is not copied, compared or weighed anew for each
-//! of them.
+//! those of the monomials before it in any order, and what they may still weigh is counted. They are put in order once,
+//! and multiplied in once. So the first values of a long product are not copied, compared or weighed anew for each
+//! factor.
 
 ghost use Rattle.std.specs.Prelude.{◌≡◌, ◌+◌, ◌*◌, ◌≤◌, ◌<◌, IfOk, OnOk, IfSome, IsTrue};
 ghost use Rattle.wh_types.specs.Limits.{greatest_weight};
@@ -33,13 +33,13 @@ pub struct Growing {
     // The greatest coefficient of the first value.
     greatest: u128,
     coefficient: u128,
-    // In any order.
+    // The factors, in any order.
     factors: Atoms,
-    // How much more the factors may weigh.
+    // How much further factors may weigh.
     left: u32,
 }
 
-/// The product of no values: the number alone. So many factors may be about to come.
+/// The product of no values: the number alone. `count` tells how many factors may come.
 pub fn start(alloc: Global, coefficient: u128, count: usize) -> Result<Growing, AllocError>
     requires { 1 ≤ coefficient }
     ensures { IfOk result (λ r. (grown r ≡ constant coefficient) × HasRoom r) }

@@ -1,4 +1,4 @@
-//! Sums and products of polynomials, where none of them exceeds a limit.
+//! Sums and products of polynomials. Each answers with a normal value, or with the limit that the result exceeds.
 #![tactic(auto)]
 
 mod growing;

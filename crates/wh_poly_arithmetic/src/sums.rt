@@ -1,4 +1,4 @@
-//! Sums of two polynomials, by merging: their monomials move to the sum.
+//! Sums of two polynomials, by merging: the monomials of both move to the sum.
 
 ghost use Rattle.std.specs.Prelude.{◌≡◌, IfOk, IsTrue};
 ghost use Rattle.wh_types.specs.Outcome.{IfBecause};

@@ -1,5 +1,5 @@
-//! Sums of many polynomials. Partial sums are added two by two, so that each monomial takes part in few merges. What is
-//! added is weighed once: as long as all of it together is light enough, so is each sum of some of it.
+//! Sums of many polynomials. Partial sums are added two by two, so that each monomial takes part in few merges. Each
+//! value is weighed once: as long as all values together are light enough, so is each sum of some of them.
 
 ghost use Rattle.std.specs.Prelude.{◌≡◌, [], IfOk, OnOk};
 ghost use Rattle.wh_types.specs.Outcome.{IfBecause};
@@ -108,7 +108,8 @@ impl Total {
     }
 }
 
-// What is left without the value; None where that is not known, or not enough.
+// What is left of a weight without the value. None where no weight is known, or the value weighs more, or it nests too
+// deep.
 fn left_without(left: Option<u32>, value: &Poly) -> Option<u32>
     ensures { IsTakenFrom left (poly value.now) result }
 {

@@ -69,7 +69,7 @@ lists_step v x sizes k rest is = ap (lists_of v x) is
 bits_step : (sizes : List ℕ) (k : ℕ) (rest : List ℕ) → sizes ≡ k ∷ rest → bits_in sizes ≡ 2 * k + bits_in rest
 bits_step sizes k rest is = ap bits_in is
 
--- so many bits are left
+-- the bits that are left behind one more list of coefficients
 pub room_next : (sizes : List ℕ) (i d from all : ℕ) → i < length sizes → from + bits_in (drop i sizes) ≡ all
     → (from + 2 * get_or sizes i d) + bits_in (drop (i + 1) sizes) ≡ all
 room_next sizes i d from all within is = omega (arith, is, bits_step (drop i sizes) (get_or sizes i d) (drop (i + 1) sizes) (drop_more sizes i d within))

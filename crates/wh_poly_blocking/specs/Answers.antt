@@ -1,4 +1,4 @@
--- What the search for interpretations ends with.
+-- The answers of the search for interpretations by guesses.
 use Rattle.std.specs.Prelude.{ℕ, ◌≡◌, List, length}
 use Rattle.wh_system.specs.Systems.{SystemData}
 use Rattle.wh_pairs.specs.PairData.{PairData}

@@ -22,7 +22,7 @@ bit_count scopes = first_bit scopes (length scopes)
 abbrev pub digit : (ℕ → Bool) → ℕ → ℕ
 digit v x = (if v x then 1 else 0) + (if v (suc x) then 2 else 0)
 
--- so many numbers, which the bits from x on write
+-- k numbers, which the bits from x on write
 abbrev pub digits : (ℕ → Bool) → ℕ → ℕ → List ℕ
 digits v x zero = []
 digits v x (suc k) = digit v x ∷ digits v (2 + x) k
@@ -32,6 +32,6 @@ abbrev pub lists_from : (ℕ → Bool) → ℕ → List (List Ty) → List (List
 lists_from v x [] = []
 lists_from v x (Γ ∷ scopes) = digits v x (length (space_of Γ)) ∷ lists_from v (bits_of Γ + x) scopes
 
--- those of all bits (ours)
+-- the lists of coefficients that all bits write, from the first bit on (ours)
 abbrev pub lists_by : (ℕ → Bool) → List (List Ty) → List (List ℕ)
 lists_by v scopes = lists_from v 0 scopes

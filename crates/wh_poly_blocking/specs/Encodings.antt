@@ -30,7 +30,7 @@ system_in e = system_data e.task.system.now
 abbrev pub scopes_for : Encoding → List (List Ty)
 scopes_for e = scopes_of (task_in e) e.marked.now
 
--- the tables of the bits and of what is used are right
+-- the tables of the bits and of the symbols in conditions are right
 pub record IsEncoding (e : Encoding) : Type 0 where
   pub task : IsTaskOf e.task
   pub marked : AreMarked (task_in e).pairs (task_in e).set e.marked.now
@@ -39,7 +39,7 @@ pub record IsEncoding (e : Encoding) : Type 0 where
   -- for each scope its first bit, and at the end how many bits there are
   pub count : length e.first_bits.items ≡ length (scopes_for e) + 1
   pub firsts : (n : ℕ) → n ≤ length (scopes_for e) → get_or e.first_bits.items n 0 ≡ first_bit (scopes_for e) n
-  -- for each condition the numbers of what is used in it
+  -- for each condition the numbers of the symbols in it
   pub conditions : length e.numbers.items ≡ length (task_in e).covered + length (task_in e).set + 1
   pub numbers : (k : ℕ) (c : Condition) (ns : Vec ℕ) → IsCondition (task_in e) k c → slice_get e.numbers.items k ≡ Some ns
       → (n : ℕ) → Contains ns.items n ↔ UsesNumber (task_in e) e.marked.now c n

@@ -6,7 +6,7 @@ use Rattle.wh_poly_blocking.specs.Bits.{digits}
 abbrev pub value_of : List Bool → ℕ → Bool
 value_of values x = get_or values x false
 
--- how many bits there are for so many monomials in each scope
+-- how many bits there are, where each scope has the given number of monomials
 abbrev pub bits_in : List ℕ → ℕ
 bits_in [] = 0
 bits_in (k ∷ sizes) = 2 * k + bits_in sizes

@@ -11,7 +11,7 @@ use Rattle.wh_poly_guesses.specs.Conditions.{Condition, IsCondition, UsesNumber,
 use Rattle.wh_poly_blocking.specs.Bits.{first_bit, bit_count, lists_by}
 
 module _ (T : TaskData) (marked : List ℕ) where
-  -- the bit is one of a coefficient of what is used in the condition
+  -- the bit is one of a coefficient of a symbol in the condition
   abbrev pub IsBitOf : Condition → ℕ → Type 0
   IsBitOf c x =
       (n : ℕ) × UsesNumber T marked c n × (first_bit (scopes_of T marked) n ≤ x) × (x < first_bit (scopes_of T marked) (suc n))
@@ -23,7 +23,7 @@ module _ (T : TaskData) (marked : List ℕ) where
     pub coefficients : HaveCoefficients T (lists_by v (scopes_of T marked)) R
 
   -- a blocked clause: there is a guess under which all earlier clauses are true and a condition fails, and the clause
-  -- has just the literals that are false under it, over the bits of what is used in the condition (ours)
+  -- has just the literals that are false under it, over the bits of the symbols in the condition (ours)
   pub record IsBlocked (earlier : List (List Literal)) (clause : List Literal) : Type 0 where
     pub guess : ℕ → Bool
     pub allowed : Solves guess earlier

@@ -7,7 +7,8 @@ ghost use Rattle.wh_poly_blocking.specs.Sizes.{bits_in, first_of, lists_of, valu
 use std::alloc::{AllocError, Global};
 use wh_poly_space::MAX_COEFFICIENT;
 
-/// The numbers of the first bits of scopes with so many monomials each, and behind them how many bits there are.
+/// The number of the first bit of each scope, where scopes have the given numbers of monomials, and behind them how
+/// many bits there are.
 ///
 /// Fails also where there are more bits than a solver has variables.
 pub fn first_bits(alloc: Global, sizes: &[usize]) -> Result<Vec<u32>, AllocError>
@@ -25,7 +26,7 @@ pub fn first_bits(alloc: Global, sizes: &[usize]) -> Result<Vec<u32>, AllocError
     Ok(made)
 }
 
-// How many bits there are with so many more monomials.
+// How many bits there are with `size` further monomials.
 fn bits_after(before: u32, size: usize) -> Result<u32, AllocError>
     ensures sum { IfOk result (λ after. after ≡ before + 2 * size) }
     ensures few { IfOk result (λ after. after < 2 ^ 32) }
@@ -35,7 +36,8 @@ fn bits_after(before: u32, size: usize) -> Result<u32, AllocError>
     before.checked_add(bits).ok_or(AllocError)
 }
 
-/// The bits of coefficients, so many for each list: what is missing is 0, and what is above 3 counts as 3.
+/// The bits that write the coefficients of each list, for as many coefficients as `sizes` says: what is missing is 0,
+/// and what is above 3 counts as 3.
 pub fn bits_by(alloc: Global, lists: &[Vec<u8>], sizes: &[usize]) -> Result<Vec<bool>, AllocError> {
     let mut values = Vec::new(alloc);
     for (number, size) in sizes.iter().enumerate() {
@@ -47,7 +49,7 @@ pub fn bits_by(alloc: Global, lists: &[Vec<u8>], sizes: &[usize]) -> Result<Vec<
     Ok(values)
 }
 
-// The bits of so many coefficients join.
+// The bits of the first `size` coefficients of the list join.
 fn push_bits(values: &mut Vec<bool>, list: &[u8], size: usize) -> Result<(), AllocError> {
     for place in 0..size {
         let coefficient = list.get(place).copied().unwrap_or(0).min(MAX_COEFFICIENT);
@@ -71,7 +73,7 @@ pub fn lists_by(alloc: Global, values: &[bool], sizes: &[usize]) -> Result<Vec<V
     Ok(made)
 }
 
-// So many numbers, which the bits from one on write.
+// The first `count` numbers that the bits from `from` on write.
 fn digits(alloc: Global, values: &[bool], from: usize, count: usize) -> Result<Vec<u8>, AllocError>
     requires { from + 2 * count < 2 ^ 32 }
     ensures { IfOk result (λ made. made.items ≡ written.digits (value_of values.now) from count) }

@@ -1,4 +1,4 @@
-//! Blocked clauses, and copies of clauses.
+//! Blocked clauses, which shut out a guess, and copies of clauses.
 
 ghost use Rattle.std.specs.List.{flat_map};
 ghost use Rattle.std.specs.Prelude.{◌≡◌, ◌+◌, ◌-◌, ◌<◌, ◌++◌, All, IfOk, OnOk, length};
@@ -9,8 +9,8 @@ use crate::bits::bit;
 use std::alloc::{AllocError, Global};
 use wh_sat_trail::{Clause, Clauses, Literal};
 
-/// The literals that are false under the values, on the bits of what has these numbers; the list has the first bit of
-/// each number.
+/// The clause of the literals that are false under the values, on the bits of the symbols with these numbers. The list
+/// has the first bit of each symbol.
 pub fn clause_of(
     alloc: Global,
     values: &[bool],
@@ -32,7 +32,7 @@ pub fn clause_of(
     Ok(clause)
 }
 
-// Those on the bits from one to another join.
+// The literals that are false on the bits from `from` up to `to` join.
 fn push_literals(clause: &mut Clause, values: &[bool], from: u32, to: u32) -> Result<(), AllocError>
     ensures { OnOk result (clause.new ≡ clause.old ++ literals_from (value_of values.now) from (to - from)) }
 {

@@ -1,4 +1,4 @@
-//! How the interpretations for a task are written by bits, and what is used in each condition.
+//! How the interpretations for a task are written by bits, and which symbols stand in each condition.
 
 ghost use Rattle.std.specs.Prelude.{◌≡◌, IfOk};
 ghost use Rattle.wh_poly_blocking.specs.Encodings.{IsEncoding};
@@ -12,9 +12,8 @@ use std::alloc::{AllocError, Global};
 use wh_poly_guesses::{sizes_of, uses_of};
 use wh_reduction_pairs::Task;
 
-/// A task with the marked symbols of its set, and what is looked up in the search: of each symbol, and then of each
-/// marked one, how many monomials it has and which bit comes first; and of each condition the numbers of what is used
-/// in it.
+/// A task with the marked symbols of its set, and what the search looks up: how many monomials each symbol, and then
+/// each marked symbol, has, and which bit comes first; and for each condition the numbers of the symbols in it.
 #[derive(Drop)]
 pub struct Encoding<'a> {
     pub task: Task<'a>,

@@ -1,4 +1,4 @@
-//! Guesses that bits write.
+//! Guesses that bits write: made from all bits, or changed where the bits change.
 
 ghost use Rattle.std.specs.Prelude.{◌≡◌, IfOk, OnOk};
 ghost use Rattle.wh_poly_blocking.specs.Encodings.{IsEncoding, IsWritten};

@@ -1,7 +1,7 @@
 //! Conditions that held under some bits, so that they are not looked at again.
 //!
-//! Whether a condition holds is told by the bits of what is used in it. This only says where a search has to look, and
-//! nothing is claimed of it: that a condition fails is told by a look at it, and a guess under which none is found to
+//! The bits of the symbols in a condition decide whether it holds. This table only says where a search has to look, and
+//! nothing is claimed of it. A condition that fails is told by a look at it, and a guess under which none is found to
 //! fail is looked at as a whole.
 
 use crate::bits::bit;
@@ -15,15 +15,15 @@ const SLOTS: usize = 4096;
 pub struct Bits<'a> {
     /// The values of the bits; those that are missing are false.
     pub values: &'a [bool],
-    /// The first bit of what has each number, and behind these how many bits there are.
+    /// The first bit of each symbol, and behind these how many bits there are.
     pub first_bits: &'a [u32],
-    /// The numbers of what is used in each condition.
+    /// The numbers of the symbols in each condition.
     pub numbers: &'a [Vec<usize>],
 }
 
 impl<'a> Bits<'a> {
-    /// A number that is made of that of the condition, and of the bits of what is used in it. Others may well have the
-    /// same one.
+    /// A key made of the number of the condition and of the bits of the symbols in it. Two conditions or guesses may
+    /// have one key.
     pub fn key_of(self, condition: usize) -> u64 {
         let mut key = mixed(condition as u64, 1);
         if let Some(numbers) = self.numbers.get(condition) {
@@ -56,7 +56,7 @@ pub struct Held {
 }
 
 impl Held {
-    /// None is known to have held.
+    /// The table in which no condition is known to have held.
     pub fn new(alloc: Global) -> Result<Held, AllocError> {
         Ok(Held {
             keys: vec![in alloc; 0; SLOTS]?,

@@ -21,8 +21,8 @@ pub struct Hints {
 }
 
 impl Hints {
-    /// The hints for conditions: `numbers` has, for each condition, the numbers of the interpretations that it uses, and
-    /// `sizes` how many monomials each interpretation may have.
+    /// The hints for conditions: `numbers` has, for each condition, the numbers of the interpretations that it uses,
+    /// and `sizes` how many monomials each interpretation may have.
     pub fn new(
         alloc: Global,
         numbers: &[Vec<usize>],
@@ -33,8 +33,8 @@ impl Hints {
         Ok(Hints { order, held })
     }
 
-    /// What the guess that these bits write comes to. Only conditions that are not known to hold are evaluated, and all
-    /// of them where none fails.
+    /// The outcome of the guess that these bits write. Conditions that are known to hold are passed over; where no
+    /// other one fails, all conditions are evaluated.
     pub fn weigh<'a>(
         &mut self,
         alloc: Global,

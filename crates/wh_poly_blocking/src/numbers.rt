@@ -1,4 +1,4 @@
-//! The numbers of what is used in the conditions.
+//! The numbers of the symbols that stand in the conditions.
 
 ghost use Rattle.std.specs.List.{flat_map};
 ghost use Rattle.std.specs.Prelude.{◌≡◌, ◌+◌, ◌≤◌, ◌++◌, IfOk, OnOk, length};
@@ -7,8 +7,8 @@ ghost use Rattle.wh_poly_blocking.specs.Numbers.{AreNumbers, HaveSame, on_sides}
 use std::alloc::{AllocError, Global};
 use wh_poly_guesses::Uses;
 
-/// The numbers of what is used in each condition, each once and in order, and at the end those of all that is used
-/// behind so many rules.
+/// For each condition the numbers of the symbols in it, each once and in order, and at the end those of the symbols in
+/// all conditions behind the first `rules`.
 pub fn numbers_of_conditions(
     alloc: Global,
     all: &[Uses],
@@ -25,7 +25,7 @@ pub fn numbers_of_conditions(
     Ok(made)
 }
 
-// The numbers of what is used on the two sides.
+// The numbers of the symbols on the two sides.
 fn numbers_of(alloc: Global, uses: &Uses) -> Result<Vec<usize>, AllocError>
     ensures { IfOk result (λ made. HaveSame made.items (on_sides uses.now)) }
 {
@@ -35,7 +35,7 @@ fn numbers_of(alloc: Global, uses: &Uses) -> Result<Vec<usize>, AllocError>
     Ok(numbers)
 }
 
-// The numbers of what is used in some of the conditions.
+// The numbers of the symbols in some of the conditions.
 fn numbers_of_all(alloc: Global, all: &[Uses]) -> Result<Vec<usize>, AllocError>
     ensures { IfOk result (λ made. HaveSame made.items (flat_map on_sides all.now)) }
 {
@@ -47,7 +47,7 @@ fn numbers_of_all(alloc: Global, all: &[Uses]) -> Result<Vec<usize>, AllocError>
     Ok(numbers)
 }
 
-// The numbers of what is used on the two sides join.
+// The numbers of the symbols on the two sides join.
 fn add_numbers(numbers: &mut Vec<usize>, uses: &Uses) -> Result<(), AllocError>
     ensures { OnOk result (numbers.new.items ≡ numbers.old.items ++ on_sides uses.now) }
 {

@@ -1,4 +1,4 @@
-//! The search for interpretations by guesses.
+//! The search for interpretations by guesses. A solver proposes them, and learns from those that fail.
 
 ghost use Rattle.std.specs.Prelude.{◌≤◌, IfOk, length};
 ghost use Rattle.wh_types.specs.Limits.{most_pairs};
@@ -17,8 +17,8 @@ use wh_reduction_pairs::Task;
 use wh_sat::Search;
 use wh_sat_trail::Clauses;
 
-/// Guess by guess, beginning with these coefficients: each guess under which a condition fails is shut out by a clause
-/// over the bits of what is used in that condition.
+/// Looks for interpretations guess by guess, beginning with these coefficients. Each guess under which a condition
+/// fails is shut out by a clause over the bits of the symbols in that condition.
 pub fn find_by_guesses<'a>(
     alloc: Global,
     task: &Task<'a>,

@@ -1,4 +1,4 @@
--- What a climb ends with.
+-- The answers of a climb.
 use Rattle.wh_system.specs.SystemView.{system_data}
 use Rattle.wh_reduction_pairs.specs.TaskView.{task_data}
 use Rattle.wh_reduction_pairs.specs.declared.task.Task.{Task}

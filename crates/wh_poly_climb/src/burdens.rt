@@ -1,4 +1,4 @@
-//! How long it takes to evaluate a condition, as far as its sides tell.
+//! Burdens: how long it takes to evaluate a condition, as far as its sides tell. A climb spends its looks by them.
 
 ghost use Rattle.wh_poly_guesses.specs.Tasks.{IsTaskOf};
 
@@ -6,12 +6,12 @@ use std::alloc::{AllocError, Global};
 use wh_reduction_pairs::Task;
 use wh_terms::Term;
 
-// So many abstractions on the sides of a condition count for nothing.
+// How many abstractions on the sides of a condition count for nothing.
 const FREE: u64 = 4;
 
-/// As how many looks more it counts to evaluate each condition, those of the rules first: one for each abstraction of
-/// its sides beyond four. What abstractions stand for is a function of polynomials, and where they are handed on within
-/// one another evaluation takes the longer for each of them.
+/// For each condition, those of the rules first, as how many further looks its evaluation counts: one for each
+/// abstraction of its sides beyond four. An abstraction stands for a function of polynomials. Where abstractions are
+/// handed on within one another, evaluation takes longer for each of them.
 pub fn burdens_of<'a>(alloc: Global, task: &Task<'a>) -> Result<Vec<u64>, AllocError>
     requires { IsTaskOf task.now }
 {

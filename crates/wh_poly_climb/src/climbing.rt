@@ -12,14 +12,14 @@ use std::alloc::{AllocError, Global};
 use wh_poly_guesses::{Guess, Outcome, change_at, outcome_of};
 use wh_reduction_pairs::Task;
 
-/// What came of a change that was tried.
+/// The outcome of a change that was tried.
 #[derive(Clone, Copy)]
 enum Trial {
-    /// It is made.
+    /// The change is made.
     Taken,
-    /// It is not made, and does not better what the step aims at, or waits.
+    /// The change is not made. It does not better what the step aims at, or it waits.
     Useless,
-    /// It is not made, and would give this score.
+    /// The change is not made. It would give this score.
     Worse(u64),
 }
 
@@ -30,7 +30,8 @@ struct Least {
     score: u64,
 }
 
-/// Climbs from the guess on until an interpretation is found or the looks are spent; whether the guess is one.
+/// Climbs from the guess on until an interpretation is found or the looks are spent. The answer says whether the guess
+/// is an interpretation.
 pub fn climb_from<'a>(
     alloc: Global,
     task: &Task<'a>,
@@ -180,7 +181,7 @@ fn try_change<'a>(
     })
 }
 
-// Makes the change, whatever comes of it.
+// Makes the change, whether it betters the score or not.
 fn take<'a>(
     alloc: Global,
     task: &Task<'a>,

@@ -1,9 +1,9 @@
-//! For each symbol and each marked symbol the conditions in which it is used.
+//! For each symbol and each marked symbol the conditions on whose sides it stands.
 
 use std::alloc::{AllocError, Global};
 use wh_poly_guesses::Uses;
 
-/// For each of so many numbers the conditions that have it on a side.
+/// For each of `count` numbers the conditions that have that symbol on a side.
 pub fn holders_of(
     alloc: Global,
     all: &[Uses],

@@ -4,7 +4,7 @@ use std::alloc::{AllocError, Global};
 use std::collections::HashMap;
 use wh_poly_guesses::Outcome;
 
-/// A condition, and the coefficients of all that is read on its sides. They alone decide what it is.
+/// A condition, and the coefficients of all symbols on its sides. They alone decide its outcome.
 #[derive(PartialEq, Eq, Hash, Drop)]
 pub struct Case {
     pub condition: usize,
@@ -14,7 +14,7 @@ pub struct Case {
 /// How many outcomes are kept at most.
 const MOST: usize = 65_536;
 
-/// The outcomes of cases that were seen. With too many of them all are forgotten.
+/// The outcomes of cases that were seen. Where they get too many, all are forgotten.
 #[derive(Drop)]
 pub struct Known {
     outcomes: HashMap<Case, Outcome>,

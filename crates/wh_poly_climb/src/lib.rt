@@ -1,4 +1,4 @@
-//! The search for interpretations by climbing from a first guess.
+//! The search for interpretations by climbing from a first guess: `climb` is the main function.
 #![tactic(auto)]
 
 mod burdens;

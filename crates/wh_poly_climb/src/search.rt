@@ -1,4 +1,4 @@
-//! The search for interpretations of a set, by climbing.
+//! The call of a climb for a set, and its answer.
 
 ghost use Rattle.std.specs.Prelude.{◌≤◌, IfOk, length};
 ghost use Rattle.wh_types.specs.Limits.{most_pairs};
@@ -22,7 +22,7 @@ use wh_reduction_pairs::Task;
 use wh_system::System;
 use wh_types::SimpleType;
 
-/// What a climb ends with.
+/// The end of a climb.
 #[derive(Drop)]
 pub enum Climbed {
     /// The node of interpretations.
@@ -93,7 +93,7 @@ fn first_state<'a>(
     })
 }
 
-// So many outcomes of conditions that are not evaluated yet.
+// `count` outcomes of conditions that are not evaluated yet.
 fn unmet(alloc: Global, count: usize) -> Result<Vec<Outcome>, AllocError> {
     let mut outcomes = Vec::new(alloc);
     for _ in 0..count {

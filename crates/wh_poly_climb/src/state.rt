@@ -10,7 +10,7 @@ use std::collections::VecDeque;
 use wh_poly_guesses::{Outcome, Uses};
 use wh_poly_space::{MAX_COEFFICIENT, Random};
 
-/// A coefficient, told by the number of what is used and by its place, and a value for it.
+/// A change: a coefficient, told by the number of its symbol and by its place, and a value for it.
 #[derive(Clone, Copy)]
 pub struct Change {
     pub number: usize,
@@ -40,25 +40,25 @@ const WAITING: usize = 8;
 /// Where a climb stands.
 #[derive(Drop)]
 pub struct State {
-    /// What is used in the conditions, those of the rules first.
+    /// The symbols that stand in each condition, the conditions of the rules first.
     pub uses: Vec<Uses>,
-    /// How many of them are of rules.
+    /// How many conditions are of rules.
     pub rules: usize,
     /// For each number the conditions that have it on a side.
     pub holders: Vec<Vec<usize>>,
-    /// The coefficients of what is used, by number.
+    /// The coefficients of each symbol and each marked symbol, by number.
     pub coefficients: Vec<Vec<u8>>,
     /// For each number whether its coefficients may have changed since it was read.
     pub changed: Vec<bool>,
     /// What the conditions are under the guess.
     pub outcomes: Vec<Outcome>,
-    /// What they were before.
+    /// The outcomes of conditions that were seen before.
     pub known: Known,
     /// The changes that wait, the oldest first.
     pub waiting: VecDeque<Waiting>,
-    /// What chooses.
+    /// The generator of the climb's random choices.
     pub random: Random,
-    /// As how many looks more it counts to evaluate each condition.
+    /// For each condition, as how many further looks its evaluation counts.
     pub burdens: Vec<u64>,
     /// How many looks at a condition are left.
     pub left: u64,
@@ -95,7 +95,7 @@ impl State {
         Ok(failing)
     }
 
-    /// What the condition is under the guess.
+    /// The outcome of the condition under the guess.
     pub fn outcome(&self, condition: usize) -> Outcome {
         match self.outcomes.get(condition) {
             Some(outcome) => *outcome,
@@ -174,14 +174,14 @@ impl State {
         }
     }
 
-    /// Whether what has the number is to be read anew; from then on it counts as read.
+    /// Whether the symbol with the number is to be read anew. From then on it counts as read.
     pub fn is_due(&mut self, number: usize) -> bool {
         let due = self.changed.get(number) == Some(&true);
         self.note(number, false);
         due
     }
 
-    /// What is used on the sides of the condition.
+    /// The symbols that stand on the sides of the condition.
     pub fn numbers_in(&self, alloc: Global, condition: usize) -> Result<Vec<usize>, AllocError> {
         let mut numbers = Vec::new(alloc);
         if let Some(uses) = self.uses.get(condition) {
@@ -199,7 +199,7 @@ impl State {
         }
     }
 
-    /// What these conditions are under the guess.
+    /// The outcomes of these conditions under the guess.
     pub fn outcomes_of(
         &self,
         alloc: Global,
@@ -297,12 +297,12 @@ impl State {
         })
     }
 
-    /// One look more is done.
+    /// One look is spent.
     pub fn spend(&mut self) {
         self.left = self.left.saturating_sub(1);
     }
 
-    /// The condition was evaluated: where that takes long, it counts as more looks.
+    /// Further looks are spent for a condition whose evaluation takes long.
     pub fn spend_more(&mut self, condition: usize) {
         let more = self.burdens.get(condition).copied().unwrap_or(0);
         self.left = self.left.saturating_sub(more);
@@ -323,8 +323,8 @@ fn same_change(a: Change, b: Change) -> bool {
     a.number == b.number && a.place == b.place && a.value == b.value
 }
 
-/// The changes by one of the coefficients in the conditions, in an order of chance. Where the conditions are not met,
-/// what is used on the left side alone only grows, and what is used on the right side alone only falls.
+/// The changes of one coefficient each in the conditions, in random order. Where the conditions are not met, a symbol
+/// that stands on left sides alone only grows, and one that stands on right sides alone only falls.
 pub fn changes_for(alloc: Global, state: &mut State, aim: &Aim) -> Result<Vec<Change>, AllocError> {
     let mut changes = Vec::new(alloc);
     for goal in &aim.goals {

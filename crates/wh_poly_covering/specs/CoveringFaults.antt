@@ -53,7 +53,7 @@ right_lines limits S rules R = record {
   pair = λ p strict ms. IsRightLine limits (pair_run S rules R p false) (pair_run S rules R p true) strict ms;
 }
 
--- and what is wrong with it first
+-- what is wrong first with a line of moves within the limits
 abbrev pub wrong_lines : Limits → Symbols → List RewriteRule → ReadingsData → Blaming (List Transfer) LineFault
 wrong_lines limits S rules R = record {
   rule = λ r ms f. IsFirstLineFault limits (rule_run R r false) (rule_run R r true) false ms f;
@@ -66,7 +66,7 @@ IsFirstNotNormal symbols f =
     (s : Interpretation) × (slice_get symbols f ≡ Some s) × (Normal (arguments s.kind) s.polynomial → ⊥)
     × ((g : ℕ) (u : Interpretation) → g < f → slice_get symbols g ≡ Some u → Normal (arguments u.kind) u.polynomial)
 
--- and that of its marked symbol is the first of those
+-- the interpretation of the marked symbol of f is the first that is not normal in the scope of its arguments
 abbrev pub IsFirstNotNormalMark : Symbols → List RewriteRule → List Mark → ℕ → Type 0
 IsFirstNotNormalMark S rules marks f =
     (i : ℕ) × (m : Mark) × (slice_get marks i ≡ Some m) × (m.symbol ≡ f) × (Normal (marked_types S rules f) m.polynomial → ⊥)
@@ -83,7 +83,7 @@ module _ (limits : Limits) (T : TaskData) (R : ReadingsData) where
   abbrev pub IsFirstWrongRule : List (List Transfer) → ℕ → LineFault → Type 0
   IsFirstWrongRule = IsFirstRuleFault (right_lines limits T.symbols T.rules R) (wrong_lines limits T.symbols T.rules R) T
 
-  -- and with those of the pairs
+  -- the first thing wrong with the lines of the pairs
   abbrev pub IsFirstWrongPair : List (List Transfer) → List ℕ → ℕ → LineFault → Type 0
   IsFirstWrongPair = IsFirstPairFault (right_lines limits T.symbols T.rules R) (wrong_lines limits T.symbols T.rules R) T
 

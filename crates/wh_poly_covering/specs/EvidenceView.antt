@@ -1,4 +1,4 @@
--- What the lines of moves of a node stand for.
+-- The data that the lines of moves of a node stand for.
 use Rattle.std.specs.Prelude.{List, map}
 use Rattle.wh_reduction_pairs.specs.ReductionPair as reduction
 use Rattle.wh_hopoly.specs.Erase.{transfers}

@@ -1,4 +1,4 @@
--- What the calls that test single lines answer.
+-- The answers of the calls that test single lines of moves.
 use Rattle.std.specs.Prelude.{ℕ, ◌≡◌, List, Bool, Result}
 use Rattle.wh_types.specs.Outcome.{MatchOr}
 use Rattle.wh_types.specs.declared.want.Or.{Or}

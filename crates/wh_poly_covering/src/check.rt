@@ -38,7 +38,7 @@ use wh_usable::check_closed;
 ///
 /// `Err` names the first condition that fails, in this order: of the symbols, the marks, the rules and the pairs of the
 /// set the first one, and of a line first that a value in the evaluation of a side exceeds a limit. Each side is
-/// evaluated once. A line of more moves than 32 bits count is told as want of memory.
+/// evaluated once. Where a line has more moves than 32 bits count, the answer is want of memory.
 pub fn check_covering<'a, 'b, 'c>(
     alloc: Global,
     task: &Task<'a>,

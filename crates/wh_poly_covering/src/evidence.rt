@@ -1,4 +1,4 @@
-//! The lines of moves of a node of interpretations.
+//! The evidence of a node of interpretations: its lines of moves, and the pairs that it drops.
 
 use wh_hopoly::Moves;
 

@@ -1,4 +1,4 @@
-//! What can be wrong with a node of interpretations.
+//! The faults of a node of interpretations: which condition fails first, and at which symbol, rule or pair.
 
 use wh_poly::Excess;
 use wh_polycheck::CoverFault;
@@ -25,14 +25,14 @@ pub enum CoveringFault {
     Rule {
         /// The rule.
         rule: u32,
-        /// What it is.
+        /// What is wrong with the line.
         fault: LineFault,
     },
     /// What is wrong with the line of this pair.
     Pair {
         /// The pair.
         pair: u32,
-        /// What it is.
+        /// What is wrong with the line.
         fault: LineFault,
     },
 }

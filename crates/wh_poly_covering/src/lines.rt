@@ -117,8 +117,8 @@ fn limit_of(fault: &PolyFault) -> Excess
     }
 }
 
-// Whether the moves show that the first side is at least the second one, or greater. Moves past what 32 bits count are
-// more than memory holds, and are told as want of memory.
+// Whether the moves show that the first side is at least the second one, or greater. Where there are more moves than 32
+// bits count, which is more than memory holds, the answer is want of memory.
 fn check_line(left: &Poly, right: &Poly, strict: bool, moves: &Moves) -> Result<(), Or<LineFault>>
     requires left { IsSomeSide (poly left.now) }
     requires right { IsSomeSide (poly right.now) }

@@ -1,4 +1,4 @@
-//! Whether the polynomials that symbols and marked symbols are read as are normal, each in the scope of its own
+//! Whether interpretations are normal: the polynomials of symbols and of marked symbols, each in the scope of its own
 //! arguments.
 
 ghost use Rattle.std.specs.Prelude.{◌≡◌, ◌≤◌, ◌^◌, IfOk, MatchOption, length};

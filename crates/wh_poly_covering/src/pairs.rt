@@ -1,4 +1,4 @@
-//! The lines of the pairs of the set, in order.
+//! The lines of the pairs of the set, checked in order.
 
 ghost use Rattle.std.specs.Prelude.{ℕ, ◌≡◌, Contains, OnOk, Some, length, map, slice_get};
 ghost use Rattle.std.specs.List.Sorted.{IsNonDecreasing};

@@ -1,4 +1,4 @@
-//! The lines of the rules, in order.
+//! The lines of the rules that are to be covered, checked in order.
 
 ghost use Rattle.std.specs.Prelude.{ℕ, ◌≡◌, ◌<◌, All, OnOk, length, map};
 ghost use Rattle.wh_types.specs.Outcome.{IfBecause};

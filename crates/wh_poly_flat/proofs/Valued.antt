@@ -36,7 +36,7 @@ put_low n here at x less =
     let k : down n x ≡ x = grind (arith, less) in
     ap (λ b. if b then here else at (down n x)) h ∙ ap at k
 
--- what is worth no more than 3 times and adds up has so many bits
+-- a bound of the sum a + c * b, where c is at most 3, by the bounds of a and b
 two_parts : (x y : ℕ) → (4 + x) + 3 * (4 + y) ≤ (4 + x) * (4 + y) + 3
 two_parts x y = omega arith
 

@@ -24,11 +24,11 @@ abbrev mutual
   occurrences_in none = 0
   occurrences_in (more t ts) = occurrences t + occurrences_in ts
 
--- and in a side of a pair, with the marked symbol that heads it
+-- how often symbols and meta-variables occur in a side of a pair, with the marked symbol that heads it
 abbrev pub call_occurrences : List Tm → ℕ
 call_occurrences ts = 1 + occurrences_in (tms_of ts)
 
--- a side of a rule or pair has at most so many, and all sides together
+-- the greatest number of occurrences in a side of a rule or pair, and in all sides together
 abbrev pub most_in_side : ℕ
 most_in_side = 60
 
@@ -62,7 +62,7 @@ pair_occurrences p = call_occurrences p.left + call_occurrences p.right
 abbrev pub occurrences_at : List PairData → ℕ → ℕ
 occurrences_at pairs n = option_map_or pair_occurrences (slice_get pairs n) 0
 
--- the same of the rule with this number
+-- how often symbols and meta-variables occur in the rule with this number
 abbrev pub rule_occurrences_at : List RewriteRule → ℕ → ℕ
 rule_occurrences_at rules n = option_map_or rule_occurrences (slice_get rules n) 0
 
@@ -74,7 +74,7 @@ task_for d pairs set covered = task_over d.symbols d.rules pairs set covered
 abbrev pub IsListed : List RewriteRule → List ℕ → RewriteRule → Type 0
 IsListed rules listed r = (n : ℕ) × Contains listed n × (slice_get rules n ≡ Some r)
 
--- those of the sides of the rules that are to be covered and of the set's pairs
+-- how often symbols and meta-variables occur in the sides of the rules that are to be covered and of the set's pairs
 abbrev pub all_occurrences : TaskData → ℕ
 all_occurrences T = sum_by (rule_occurrences_at T.rules) T.covered + sum_by (occurrences_at T.pairs) T.set
 

@@ -46,6 +46,6 @@ pub record IsAtLeast (lists : List (List ℕ)) (left right : Tm) : Type 0 where
   pub constant : constant_of lists right ≤ constant_of lists left
   pub each : (z : ℕ) → factor_of lists z right ≤ factor_of lists z left
 
--- and the constant is greater
+-- the constant of the first side is greater than that of the second one
 abbrev pub IsGreater : List (List ℕ) → Tm → Tm → Type 0
 IsGreater lists left right = constant_of lists right < constant_of lists left

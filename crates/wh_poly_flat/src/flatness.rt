@@ -1,4 +1,4 @@
-//! Whether a set is flat.
+//! The test whether a set is flat: first-order, and not large.
 
 ghost use Rattle.std.specs.Prelude.{ℕ, ◌↔◌, ◌<◌, ◌≤◌, All, Contains, IsTrue, length, map, sum_by};
 ghost use Rattle.wh_terms.specs.Budget.{Left};
@@ -15,7 +15,7 @@ use wh_pairs::Pair;
 use wh_reduction_pairs::Task;
 use wh_terms::{Rule, Signature};
 
-// So much may occur in all sides together.
+// The greatest number of occurrences of symbols and meta-variables in all sides together.
 const MOST_IN_ALL: u32 = 8192;
 
 /// Whether the set is flat: the sides of the rules that are to be covered and of the set's pairs are first-order, those
@@ -33,7 +33,7 @@ pub fn flat<'a>(task: &Task<'a>) -> bool
     }
 }
 
-// What is left of the room beyond the rules of the list.
+// What is left of the room behind the rules of the list; `None` where one is not flat, or the room is spent.
 fn after_rules(signature: &Signature, rules: &[Rule], listed: &[u32], room: u32) -> Option<u32>
     requires made { (r : RewriteRule) → Contains (rewrite_rules rules.now) r → IsWellMade (symbols signature.now) r }
     requires within { All (λ n. n < length rules.now) listed.now }

@@ -1,4 +1,4 @@
-//! The law of flat sets.
+//! The law of flat sets: which interpretations let a pair go, told by the worth of sides.
 
 ghost use Rattle.std.specs.Prelude.{ℕ, ◌↔◌, List, map};
 ghost use Rattle.wh_system.specs.Systems.{SystemData};

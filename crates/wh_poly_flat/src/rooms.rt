@@ -1,5 +1,5 @@
-//! What is left of a room beyond what occurs in sides, if they are flat and the room is enough. Each walk stops where
-//! the room is spent.
+//! Room for occurrences of symbols and meta-variables: what is left of it behind sides, if they are flat and the room
+//! is enough. Each walk stops where the room is spent.
 
 ghost use Rattle.std.specs.Prelude.{◌≡◌, ◌≤◌, map};
 ghost use Rattle.wh_terms.specs.Budget.{Left};
@@ -14,10 +14,10 @@ use wh_pairs::Pair;
 use wh_terms::{MetaDecl, Rule, Signature, Term, Terms};
 use wh_usable_first_order::{is_first_order, is_nullary, is_of_a_sort};
 
-// So much may occur in one side.
+// The greatest number of occurrences of symbols and meta-variables in one side.
 const MOST_IN_SIDE: u32 = 60;
 
-/// What is left beyond a rule.
+/// What is left of the room behind a rule; `None` where the rule is not flat, or the room is spent.
 pub fn after_rule(signature: &Signature, rule: &Rule, room: u32) -> Option<u32>
     requires { IsWellMade (symbols signature.now) (rewrite_rule rule.now) }
     ensures { Left room (rule_occurrences (rewrite_rule rule.now))
@@ -44,7 +44,7 @@ fn after_side(signature: &Signature, metas: &[MetaDecl], side: &Term, room: u32)
     Some(room - (most - rest))
 }
 
-/// What is left beyond a pair.
+/// What is left of the room behind a pair; `None` where the pair is not flat, or the room is spent.
 pub fn after_pair(signature: &Signature, pair: &Pair, room: u32) -> Option<u32>
     ensures { Left room (pair_occurrences (pair_data pair.now))
         (IsFlatPair (symbols signature.now) (pair_data pair.now) × (pair_occurrences (pair_data pair.now) ≤ room)) result }

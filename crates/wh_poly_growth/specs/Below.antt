@@ -1,4 +1,4 @@
--- Readings of which one is at most the other.
+-- Readings that are below others: each polynomial is at most its partner, whatever the variables are.
 use Rattle.std.specs.Prelude.{ℕ, ◌≤◌, ◌≡◌, List, Some, map, slice_get}
 use Rattle.wh_types.specs.Ty.{Ty, arguments}
 use Rattle.wh_terms.specs.Typing.{Symbols}
@@ -20,7 +20,7 @@ pub record AreSymbolsBelow (low high : List Interpretation) : Type 0 where
   pub each : (f : ℕ) (s t : Interpretation) → slice_get low f ≡ Some s → slice_get high f ≡ Some t
       → IsBelow (arguments s.kind) s.polynomial t.polynomial
 
--- so it is of marked symbols (ours)
+-- the marks are of the same symbols, each at most the other of its symbol (ours)
 pub record AreMarksBelow (S : Symbols) (rules : List RewriteRule) (low high : List Mark) : Type 0 where
   pub symbols : map (λ m. m.symbol) low ≡ map (λ m. m.symbol) high
   pub each : (i : ℕ) (m n : Mark) → slice_get low i ≡ Some m → slice_get high i ≡ Some n

@@ -9,7 +9,7 @@ abbrev pub IsTooSmall : ℕ → ℕ → Bool → Type 0
 IsTooSmall m n false = m < n
 IsTooSmall m n true = m ≤ n
 
--- for some weights of at most so many variables the left polynomial is worth too little (ours)
+-- for weights of at most `variables` variables the left polynomial is worth too little (ours)
 abbrev pub IsRefuted : ℕ → Polynomial → Polynomial → Bool → Type 0
 IsRefuted variables left right strict =
     (ws : List Weight) × (length ws ≤ variables) × IsTooSmall (number ws left) (number ws right) strict

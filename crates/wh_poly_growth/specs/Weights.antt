@@ -1,4 +1,4 @@
--- Valuations that are told by two numbers for each variable, and what polynomials are worth under them.
+-- Valuations that two numbers give for each variable, and the worth of polynomials under them.
 use Rattle.std.specs.Prelude.{ℕ, zero, suc, ◌+◌, ◌-◌, ◌*◌, ◌^◌, min, List, [], ◌∷◌}
 use Rattle.wh_types.specs.Ty.{Ty, sort, ◌⇒◌}
 use Rattle.wh_poly.specs.Polynomials.{Polynomial, zero_poly, plus, Factors, no_factors, times, Arguments, no_arguments, argument}
@@ -11,7 +11,7 @@ abbrev pub at_nothing : (A : Ty) → Sem A → ℕ
 at_nothing (sort s) n = n
 at_nothing (A ⇒ B) f = at_nothing B (f (nothing A))
 
--- the value that is a constant and so many times the sum of its arguments, each taken where its own arguments are 0
+-- the value that is the constant c and k times the sum of its arguments, each taken where its own arguments are 0
 -- (ours)
 abbrev pub linear : (A : Ty) → ℕ → ℕ → Sem A
 linear (sort s) c k = c

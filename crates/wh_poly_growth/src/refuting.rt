@@ -1,4 +1,4 @@
-//! Numbers that show that one polynomial does not cover another.
+//! Numbers that show that no moves cover one polynomial by another. The search in ranges asks for them.
 
 ghost use Rattle.std.specs.Bool.{OnTrue};
 ghost use Rattle.std.specs.Prelude.{◌≡◌, IfOk, length};
@@ -13,9 +13,9 @@ use wh_poly::{Atoms, Poly};
 // A number that is great beside those of most polynomials; a product of six of them fits 128 bits.
 const GREAT: u64 = 1_000_000;
 
-/// Whether for some of a few weights of so many variables the left polynomial is worth less than the right one, or,
-/// where it is to be greater, no more. What each is worth is told as at most the greatest number of 128 bits, and a
-/// left one that is worth so much shows nothing.
+/// Whether under some of a few weights, for `variables` variables, the left polynomial is worth less than the right
+/// one, or, where it is to be greater, no more. Each worth is computed up to the greatest number of 128 bits, and a
+/// left one of that number shows nothing.
 pub fn is_refuted(
     alloc: Global,
     left: &Poly,

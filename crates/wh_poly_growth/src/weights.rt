@@ -1,4 +1,4 @@
-//! What a polynomial is worth where two numbers tell what each variable is.
+//! The worth of a polynomial as a number, where two numbers tell what each variable is.
 
 ghost use Rattle.std.specs.Prelude.{◌≡◌, ◌+◌, ◌*◌};
 ghost use Rattle.wh_poly.specs.Erase.{poly, atoms, polys};
@@ -6,8 +6,8 @@ ghost use Rattle.wh_poly_growth.specs.Weights.{constant_at, factor_at, number, p
 
 use wh_poly::{Atoms, Poly, Polys};
 
-/// A variable's value: the constant, and so many times the sum of its arguments, each taken where its own arguments are
-/// 0.
+/// A variable's value: the constant, and `factor` times the sum of its arguments, each taken where its own arguments
+/// are 0.
 #[derive(Clone, Copy)]
 pub struct Weight {
     /// The constant.
@@ -36,7 +36,7 @@ fn product_of(weights: &[Weight], factors: &Atoms) -> u128
 {
     let mut product: u128 = 1;
     for item in factors.as_slice() {
-        // Then no further factor makes a difference.
+        // Once the product is 0 no further factor makes a difference.
         if product == 0 {
             return 0;
         }
@@ -52,7 +52,7 @@ fn value_of(weights: &[Weight], variable: u32, arguments: &Polys) -> u128
         (polys arguments.now)) }
 {
     let weight = weight_at(weights, variable);
-    // Then the arguments make no difference.
+    // Where the factor is 0 the arguments make no difference.
     if weight.factor == 0 {
         return u128::from(weight.constant);
     }

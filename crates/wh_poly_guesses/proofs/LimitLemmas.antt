@@ -115,7 +115,7 @@ module _ (Γ : List Ty) (few : length Γ ≤ 65536) where
   pub tried_fits : (p : Polynomial) → IsOfSpace Γ p → PolyFits 0 p
   tried_fits p of = each_fits p (λ i c us at. let h = of.monomials c us (i, at) in (is_big c (monomial_positive p i c us of.normal at) h.0, space_fits us h.1))
 
--- no type has so many arguments
+-- a type has at most 32 arguments where no part of it has more
 
 pub wide : (a : Ty) → ArgumentsWithin 32 a → length (arguments a) ≤ 32
 wide (sort s) narrow = omega arith

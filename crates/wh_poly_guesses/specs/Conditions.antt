@@ -1,4 +1,4 @@
--- The conditions under which readings let a pair of a set go, one by one, and what is used in each.
+-- The conditions under which readings let a pair of a set go, one by one, and which symbols stand in each.
 use Rattle.std.specs.Prelude.{ℕ, ◌+◌, ◌<◌, ◌≡◌, ◌⊎◌, List, Some, length, Bool, true, false, slice_get}
 use Rattle.wh_terms.specs.Tree.{Tm, fun, meta, lam, app, Tms, none, more, tms_of}
 use Rattle.wh_terms.specs.Rules.{RewriteRule}
@@ -74,7 +74,7 @@ pub record IsMet (left right : Run Polynomial) (strict : Bool) : Type 0 where
   pub covers : CoversSides left right strict moves
 
 module _ (T : TaskData) (R : ReadingsData) where
-  -- so it is of the sides of a pair
+  -- the condition is met by the sides of a pair, under the readings
   abbrev pub IsMetBy : PairData → Bool → Type 0
   IsMetBy p strict = IsMet (pair_run T.symbols T.rules R p false) (pair_run T.symbols T.rules R p true) strict
 

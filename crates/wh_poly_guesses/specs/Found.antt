@@ -1,4 +1,4 @@
--- What the search for interpretations finds.
+-- The answers of a search for interpretations: a node of the space whose conditions hold.
 use Rattle.std.specs.Prelude.{ℕ, ◌≡◌, ◌^◌, List, Option, Some, None, All, Contains, length, slice_get, false, true}
 use Rattle.wh_system.specs.Systems.{SystemData}
 use Rattle.wh_pairs.specs.PairData.{PairData, IsIncreasing}
@@ -50,11 +50,11 @@ pub record IsInterpretationOver (d : SystemData) (ps : List PairData) (set : Lis
   pub pairs_apart : All AreApart evidence.of_pairs
   pub increasing : IsIncreasing evidence.drop
   pub all_strict : DropsAllStrict (poly_task d ps set usable) readings evidence
-  -- it is of its version, and within the limits of certificates
+  -- the node is of its version, and within the limits of certificates
   pub version : IsOfVersion (version_with usable) line
   pub fits : NodeFits line
   pub within : NodeWithin (2 ^ 32) line
 
--- it lists no rules, so that all are to be covered
+-- the node is an interpretation that lists no rules, so that all are to be covered
 abbrev pub IsInterpretation : SystemData → List PairData → List ℕ → w.Node → Type 0
 IsInterpretation d ps set line = IsInterpretationOver d ps set None line

@@ -22,7 +22,7 @@ pub record IsSearchTask (T : TaskData) : Type 0 where
 abbrev pub IsReadSymbol : Symbol → Type 0
 IsReadSymbol s = IsOfSpace (arguments (ty s.kind)) (poly s.poly)
 
--- and the marked symbol by one that is tried for the arguments that its rules need
+-- the marked symbol is read by a polynomial that is tried for the arguments that its rules need
 abbrev pub IsReadMark : Symbols → List RewriteRule → MarkedSymbol → Type 0
 IsReadMark S rules m = IsOfSpace (marked_types S rules m.symbol) (poly m.poly)
 

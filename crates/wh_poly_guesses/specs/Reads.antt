@@ -17,7 +17,8 @@ IsReadBy cs s = HasCoefficients (arguments (ty s.kind)) cs (poly s.poly)
 abbrev pub IsMarkBy : Symbols → List RewriteRule → List ℕ → MarkedSymbol → Type 0
 IsMarkBy S rules cs m = HasCoefficients (marked_types S rules m.symbol) cs (poly m.poly)
 
--- each symbol has those of the list at its place, and each marked symbol those of the list so many places further
+-- each symbol has the coefficients of the list at its number, and each marked symbol those of the list at its place
+-- behind a number
 abbrev pub AreReadBy : (ℕ → List ℕ) → List Symbol → Type 0
 AreReadBy at symbols = (f : ℕ) (s : Symbol) → slice_get symbols f ≡ Some s → IsReadBy (at f) s
 

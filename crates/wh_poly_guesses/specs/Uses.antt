@@ -1,4 +1,4 @@
--- What is used on the sides of a rule or of a pair, as the program lists it.
+-- The symbols that stand on the sides of a rule or of a pair, as the program lists them.
 use Rattle.std.specs.Prelude.{ℕ, ◌+◌, ◌≡◌, ◌⊎◌, ◌↔◌, List, Some, length, Contains, slice_get}
 use Rattle.wh_terms.specs.Rules.{RewriteRule}
 use Rattle.wh_pairs.specs.PairData.{PairData}
@@ -7,7 +7,7 @@ use Rattle.wh_reduction_pairs.specs.TaskData.{TaskData}
 use Rattle.wh_poly_guesses.specs.Conditions.{Condition, IsCondition, UsesNumber, HasSymbol, StandsInPair}
 use Rattle.wh_poly_guesses.specs.declared.uses.Uses.{Uses}
 
--- those numbers of which P holds join the list
+-- the numbers of which P holds join the list
 abbrev pub Joins : (ℕ → Type 0) → List ℕ → List ℕ → Type 0
 Joins P old new = (n : ℕ) → Contains new n ↔ (Contains old n ⊎ P n)
 
@@ -27,14 +27,14 @@ StandsInRule f r = HasSymbol f r.left ⊎ HasSymbol f r.right
 abbrev pub IsMarkOf : ℕ → List ℕ → PairData → ℕ → Type 0
 IsMarkOf first marked p n = (i f : ℕ) × (n ≡ first + i) × (slice_get marked i ≡ Some f) × HeadsASide f p
 
--- for each rule that is to be covered there is what is used in it
+-- for each rule that is to be covered there is a list of the symbols on its sides
 pub record AreRuleUses (rules : List RewriteRule) (covered : List ℕ) (uses : List Uses) : Type 0 where
   pub count : length uses ≡ length covered
   pub each : (k n : ℕ) (r : RewriteRule) (u : Uses) → slice_get covered k ≡ Some n → slice_get rules n ≡ Some r
       → slice_get uses k ≡ Some u
       → UsesAll (λ m. StandsInRule m r) u
 
--- and so there is for each pair of the set
+-- for each pair of the set there is a list of the symbols and marked symbols on its sides
 pub record ArePairUses (first : ℕ) (marked : List ℕ) (pairs : List PairData) (set : List ℕ) (uses : List Uses) : Type 0 where
   pub count : length uses ≡ length set
   pub each : (i n : ℕ) (p : PairData) (u : Uses) → slice_get set i ≡ Some n → slice_get pairs n ≡ Some p
@@ -45,7 +45,8 @@ pub record ArePairUses (first : ℕ) (marked : List ℕ) (pairs : List PairData)
 abbrev pub AreUsesIn : TaskData → List ℕ → Condition → Uses → Type 0
 AreUsesIn T marked c = UsesAll (UsesNumber T marked c)
 
--- there is what is used in each rule that is to be covered, and behind that what is used in each pair of the set
+-- for each rule that is to be covered, and behind these for each pair of the set, there is a list of the symbols and
+-- marked symbols on its sides
 pub record AreAllUses (T : TaskData) (marked : List ℕ) (uses : List Uses) : Type 0 where
   pub count : length uses ≡ length T.covered + length T.set
   pub each : (k : ℕ) (c : Condition) (u : Uses) → IsCondition T k c → slice_get uses k ≡ Some u → AreUsesIn T marked c u

@@ -1,4 +1,4 @@
--- What a guess comes to: a node, or a condition that fails.
+-- The outcome of a guess: a node, or a condition that fails.
 use Rattle.std.specs.Prelude.{ℕ, ◌≡◌, List, Option, None, length}
 use Rattle.wh_system.specs.SystemView.{system_data}
 use Rattle.wh_reduction_pairs.specs.TaskView.{task_data}
@@ -18,7 +18,7 @@ WeighsOver t usable R (Found node) =
     IsInterpretationOver (system_data t.system.now) (task_data t).pairs (task_data t).set usable (said_node node)
 WeighsOver t usable R (Failing k) = Fails (task_data t) R k
 
--- so it is of a node that lists none
+-- the answer about a node that lists no rules
 abbrev pub Weighs : Task → ReadingsData → Weighing → Type 0
 Weighs t = WeighsOver t None
 

@@ -1,16 +1,16 @@
-//! A guess: readings of its own, that the search changes.
+//! Guesses: readings that a search owns and changes.
 
 ghost use Rattle.std.specs.Prelude.{◌≡◌};
 
 use wh_hopoly::Symbol;
 use wh_polycheck::{MarkedSymbol, Readings};
 
-/// What all symbols, and the marked symbols of the set, are read as.
+/// The interpretations of all symbols, and of the marked symbols of the set, that the search tries.
 #[derive(Drop)]
 pub struct Guess {
-    /// What each symbol of the system is read as, by its number.
+    /// The interpretation of each symbol of the system, by its number.
     pub symbols: Vec<Symbol>,
-    /// What each marked symbol of the set is read as, in order.
+    /// The interpretation of each marked symbol of the set, in order.
     pub marks: Vec<MarkedSymbol>,
 }
 

@@ -1,4 +1,4 @@
-//! Moves for the rules, and for the pairs of a set.
+//! The lines of a guess: moves for each rule that is to be covered, and for each pair of a set.
 
 ghost use Rattle.std.specs.Prelude.{◌≡◌, ◌↔◌, ◌<◌, ◌≤◌, ◌^◌, IfOk, IsTrue, MatchOption, Some, length, map, slice_get};
 ghost use Rattle.wh_types.specs.Outcome.{MatchOr};

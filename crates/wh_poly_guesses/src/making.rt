@@ -1,4 +1,4 @@
-//! What the symbols and the marked symbols of a set are read as.
+//! Making and changing guesses: the polynomials of symbols and marked symbols, by lists of coefficients.
 
 ghost use Rattle.std.specs.Bool.{OnTrue};
 ghost use Rattle.std.specs.Prelude.{ℕ, ◌++◌, ◌<◌, ◌^◌, ◌≡◌, ◌≢◌, Some, All, IfOk, OnOk, map, length, slice_get};

@@ -1,4 +1,4 @@
-//! The node of interpretations that a guess gives.
+//! From a guess to a node of interpretations, or to a condition that fails under it.
 
 ghost use Rattle.std.specs.Prelude.{◌+◌, ◌≡◌, ◌≢◌, ◌≤◌, [], IfOk, length, map};
 ghost use Rattle.wh_types.specs.Limits.{most_pairs};
@@ -21,10 +21,10 @@ use wh_proof::{lines_of_marks, lines_of_symbols};
 use wh_reduction_pairs::Task;
 use wh_types::{Numbers, Or};
 
-/// What a guess comes to.
+/// The outcome of a guess.
 #[derive(Drop)]
 pub enum Weighing {
-    /// The node of it: all conditions hold.
+    /// All conditions hold: the node of the guess.
     Found(Node),
     /// The number of a condition that fails.
     Failing(usize),
@@ -63,7 +63,7 @@ pub fn listing_node_of_guess<'a>(
     weighed(alloc, task, usable, &readings)
 }
 
-// What readings come to; the node lists these rules, or none.
+// The outcome of readings; the node lists these rules, or none.
 fn weighed<'a, 'b>(
     alloc: Global,
     task: &Task<'a>,

@@ -1,4 +1,4 @@
-//! The symbols of terms.
+//! The symbols that stand in terms, gathered in a list.
 
 ghost use Rattle.std.specs.Prelude.{OnOk};
 ghost use Rattle.wh_terms.specs.Erase.{tms as trees, tm};

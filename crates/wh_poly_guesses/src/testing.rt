@@ -1,4 +1,4 @@
-//! What a condition is under a guess.
+//! Single conditions under a guess: how far one is from being met, and whether one surely fails.
 
 ghost use Rattle.std.specs.Bool.{OnTrue};
 ghost use Rattle.std.specs.Prelude.{◌≡◌, ◌↔◌, ◌<◌, IfOk, IsTrue, Some, length, slice_get};
@@ -41,8 +41,8 @@ pub struct Outcome {
 /// How much is wanting where a value exceeds a limit.
 const EXCEEDING: u64 = 1000;
 
-/// What the condition with the number is under the guess: that of a rule that is to be covered, or behind these that of
-/// a pair of the set.
+/// How far the condition with the number is met under the guess. The conditions are those of the rules that are to be
+/// covered, and behind them those of the pairs of the set.
 pub fn outcome_of<'a>(
     alloc: Global,
     task: &Task<'a>,
@@ -112,7 +112,7 @@ fn pair_outcome<'a>(
     Ok(Outcome { wanting, strict })
 }
 
-// What is told where a value exceeds a limit.
+// The outcome where a value exceeds a limit.
 fn exceeding() -> Outcome {
     Outcome {
         wanting: EXCEEDING,

@@ -1,5 +1,5 @@
-//! What is used in each condition of a guess: a symbol is told by its own number, and a marked symbol by its place
-//! behind all symbols.
+//! The symbols whose interpretations the value of a side depends on, for each condition of a guess. A symbol is told by
+//! its own number, and a marked symbol by its place behind all symbols.
 
 ghost use Rattle.std.specs.Prelude.{ℕ, ◌+◌, ◌≡◌, ◌⊎◌, ◌<◌, ◌≤◌, All, Contains, IfOk, Some, length, map, slice_get};
 ghost use Rattle.wh_terms.specs.Erase.{rewrite_rule, rewrite_rules, tms as trees, tm};
@@ -16,16 +16,17 @@ use wh_pairs::Pair;
 use wh_reduction_pairs::Task;
 use wh_terms::{Rule, Term, Terms};
 
-/// What is used on the two sides of a rule or a pair, each once and in order.
+/// The symbols that stand on the two sides of a rule or a pair, each once and in order.
 #[derive(Drop)]
 pub struct Uses {
-    /// What is used on the left.
+    /// The symbols on the left side.
     pub left: Vec<usize>,
-    /// What is used on the right.
+    /// The symbols on the right side.
     pub right: Vec<usize>,
 }
 
-/// What is used in the rules that are to be covered, and then in the pairs of the set, whose marked symbols are given.
+/// The symbols that stand in each rule that is to be covered, and then in each pair of the set, whose marked symbols
+/// are `marked`.
 pub fn uses_of<'a>(alloc: Global, task: &Task<'a>, marked: &[u32]) -> Result<Vec<Uses>, AllocError>
     requires task { IsTaskOf task.now }
     requires marked { AreMarked (task_data task.now).pairs (task_data task.now).set marked.now }
@@ -39,7 +40,7 @@ pub fn uses_of<'a>(alloc: Global, task: &Task<'a>, marked: &[u32]) -> Result<Vec
     Ok(uses)
 }
 
-// What is used in the rules with these numbers.
+// The symbols that stand in each of the rules with these numbers.
 fn uses_in_rules(alloc: Global, rules: &[Rule], covered: &[u32]) -> Result<Vec<Uses>, AllocError>
     requires { All (λ n. n < length rules.now) covered.now }
     ensures { IfOk result (λ uses. AreRuleUses (rewrite_rules rules.now) covered.now uses.items) }
@@ -51,7 +52,7 @@ fn uses_in_rules(alloc: Global, rules: &[Rule], covered: &[u32]) -> Result<Vec<U
     Ok(uses)
 }
 
-// What is used in the rule.
+// The symbols that stand in the rule.
 fn uses_in_rule(alloc: Global, rule: &Rule) -> Result<Uses, AllocError>
     ensures { IfOk result (UsesAll (λ n. StandsInRule n (rewrite_rule rule.now))) }
 {
@@ -60,7 +61,7 @@ fn uses_in_rule(alloc: Global, rule: &Rule) -> Result<Uses, AllocError>
     Ok(Uses { left, right })
 }
 
-// What is used in the pairs of the set, where marked symbols have numbers from `first` on.
+// The symbols that stand in each pair of the set, where marked symbols have numbers from `first` on.
 fn uses_in_pairs(
     alloc: Global,
     pairs: &[Pair],
@@ -81,7 +82,7 @@ fn uses_in_pairs(
     Ok(uses)
 }
 
-// What is used in the pair.
+// The symbols that stand in the pair.
 fn uses_in_pair(
     alloc: Global,
     pair: &Pair,
@@ -114,7 +115,7 @@ fn place_of(marked: &[u32], symbol: u32, first: usize) -> usize
     }
 }
 
-// What is used in the term.
+// The symbols that stand in the term.
 fn used_in_term(alloc: Global, term: &Term) -> Result<Vec<usize>, AllocError>
     ensures { IfOk result (λ numbers. ListsAll (λ n. HasSymbol n (tm term.now)) numbers.items) }
 {
@@ -123,7 +124,7 @@ fn used_in_term(alloc: Global, term: &Term) -> Result<Vec<usize>, AllocError>
     numbers_of(alloc, &symbols)
 }
 
-// What is used in the arguments of a marked symbol, which has this number.
+// The symbols that stand in the arguments of a marked symbol, and the number `mark` of that symbol.
 fn used_in_terms(alloc: Global, terms: &Terms, mark: usize) -> Result<Vec<usize>, AllocError>
     ensures { IfOk result (λ numbers. ListsAll (λ n. SomeHasSymbol n (trees terms.now) ⊎ (n ≡ mark)) numbers.items) }
 {

@@ -1,4 +1,4 @@
--- What room is left for one more monomial.
+-- The room that a product of monomials has left for one more.
 use Rattle.std.specs.Prelude.{ℕ, ◌≡◌, ◌+◌, ◌*◌, ◌≤◌, ◌<◌}
 use Rattle.wh_types.specs.Limits.{coefficient_end, deepest_value}
 use Rattle.wh_poly.specs.Limits.{weight_of_factors, nesting_of_factors}

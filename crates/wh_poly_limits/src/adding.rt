@@ -1,4 +1,4 @@
-//! The sum of two monomials with the same factors.
+//! The sum of two monomials with the same factors, where two queues of monomials are merged.
 
 ghost use Rattle.std.specs.Prelude.{◌<◌, length, MatchOption};
 ghost use Rattle.wh_poly.specs.Merges.{AddsFirst, FirstOverflows};
@@ -6,8 +6,8 @@ ghost use Rattle.wh_poly.specs.Merges.{AddsFirst, FirstOverflows};
 use std::collections::VecDeque;
 use wh_poly::Monomial;
 
-/// Both queues' first monomials leave as one, which has the factors of the second; None only where its coefficient
-/// would be too great.
+/// The first monomials of the two queues leave, and their sum comes, with the factors of the second. None only where
+/// the coefficient of the sum would be too great.
 pub fn add_first(xs: &mut VecDeque<Monomial>, ys: &mut VecDeque<Monomial>) -> Option<Monomial>
     requires left { 0 < length xs.old.items }
     requires right { 0 < length ys.old.items }

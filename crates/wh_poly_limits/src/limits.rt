@@ -1,4 +1,5 @@
-//! The test of a value against the limits.
+//! The test of a value against the limits: coefficients below 2^128, weight at most 65,536, arguments nested at most
+//! 400 deep.
 
 ghost use Rattle.std.specs.Prelude.{◌≡◌, ◌<◌, ◌^◌, IfOk, MatchResult};
 ghost use Rattle.wh_types.specs.Limits.{coefficient_end};
@@ -13,7 +14,7 @@ use wh_types::Or;
 
 /// The greatest weight of a value.
 pub const MAX_WEIGHT: u32 = 65_536;
-/// How deep its arguments may nest.
+/// How deep the arguments of a value may nest.
 pub const MAX_NESTING: u32 = 400;
 
 /// Whether the value is within the limits, or the limit that it exceeds.
@@ -27,7 +28,7 @@ pub fn check_limits(p: &Poly) -> Result<(), Excess>
     }
 }
 
-/// The value, if it is within the limits.
+/// The value, where it is within the limits; else the limit that it exceeds.
 pub fn tested(value: Poly) -> Result<Poly, Or<Excess>>
     ensures ok { IfOk result (λ r. (poly r ≡ poly value) × (Exceeds (poly r) → ⊥)) }
     ensures fault { IfBecause result (λ e. ExceedsAs e (poly value)) }
@@ -38,7 +39,7 @@ pub fn tested(value: Poly) -> Result<Poly, Or<Excess>>
     }
 }
 
-/// What is stored never overflows: a walk that does nothing at run time.
+/// No coefficient that is stored overflows: a walk that does nothing at run time.
 pub fn coefficients_fit(p: &Poly)
     ensures { Overflows (poly p.now) → ⊥ }
 {

@@ -1,4 +1,4 @@
-//! What room is left for one more monomial in a product of monomials.
+//! Room in a product of monomials: what it becomes with one more, where that surely stays within the limits.
 
 ghost use Rattle.std.specs.Prelude.{IfSome};
 ghost use Rattle.wh_poly_limits.specs.Rooms.{TakesIn};
@@ -7,17 +7,17 @@ use crate::limits::{MAX_NESTING, fits};
 use crate::weighing::weigh_factors;
 use wh_poly::Monomial;
 
-/// What the monomial becomes with one more.
+/// What a product of monomials becomes when it takes in one more.
 #[derive(Clone, Copy)]
 pub struct Room {
-    /// Its coefficient.
+    /// The coefficient of the product.
     pub coefficient: u128,
-    /// How much more its factors may weigh.
+    /// How much further factors of the product may weigh.
     pub left: u32,
 }
 
-/// What a monomial with this coefficient, whose factors may weigh so much more, becomes with one more, if its product
-/// with a value of which `greatest` is the greatest coefficient then surely stays within the limits.
+/// The product of a monomial with this coefficient, whose further factors may weigh `left`, and of `item`. `None`
+/// unless it is sure that the product times a value, whose greatest coefficient is `greatest`, stays within the limits.
 pub fn room_for(greatest: u128, coefficient: u128, left: u32, item: &Monomial) -> Option<Room>
     ensures { IfSome result (TakesIn greatest coefficient left item.now) }
 {

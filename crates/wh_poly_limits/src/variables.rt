@@ -14,7 +14,7 @@ use std::alloc::Global;
 use wh_poly::{Excess, Poly, added, one_factor, with_arguments};
 use wh_types::{Or, SimpleType};
 
-/// The value of the variable `x` of the type in a scope of so many variables; a fault only where it exceeds a limit.
+/// The value of the variable `x` of the type in a scope of `count` variables; a fault only where it exceeds a limit.
 pub fn variable(alloc: Global, kind: &SimpleType, count: u32, x: u32) -> Result<Poly, Or<Excess>>
     ensures ok { IfOk result (λ r. (poly r ≡ value_of_variable (ty kind.now) count x) × (Exceeds (poly r) → ⊥)) }
     ensures fault { IfBecause result (λ e. ExceedsAs e (value_of_variable (ty kind.now) count x)) }
@@ -29,7 +29,8 @@ pub fn variable(alloc: Global, kind: &SimpleType, count: u32, x: u32) -> Result<
     Ok(value)
 }
 
-// What is left of the budget without the weight of the variables that the type adds; None as in `weigh`.
+// What is left of the budget without the weight of the variables that the type adds; None where they weigh more, or
+// their arguments nest deeper than the depth.
 fn weigh_added(kind: &SimpleType, budget: u32, depth: u32) -> Option<u32>
     ensures { MatchOption result ((budget < added_weight (ty kind.now)) ⊎ (depth < added_nesting (ty kind.now)))
         (λ left. (added_weight (ty kind.now) + left ≡ budget) × (added_nesting (ty kind.now) ≤ depth)) }

@@ -7,8 +7,8 @@ ghost use Rattle.wh_poly.specs.Limits.{weight, weight_of_factors, weight_of_argu
 
 use wh_poly::{Atoms, Poly, Polys};
 
-/// What is left of the budget without the weight; None where the weight is above it, or the arguments nest deeper than
-/// the depth.
+/// What is left of the budget without the weight of the polynomial; None where it weighs more than the budget, or its
+/// arguments nest deeper than the depth.
 #[cycle(weigh)]
 pub fn weigh(p: &Poly, budget: u32, depth: u32) -> Option<u32>
     ensures { MatchOption result ((budget < weight (poly p.now)) ⊎ (depth < nesting (poly p.now)))
@@ -24,7 +24,8 @@ pub fn weigh(p: &Poly, budget: u32, depth: u32) -> Option<u32>
     Some(left)
 }
 
-/// The same of factors.
+/// What is left of the budget without the weight of the factors; None where they weigh more than the budget, or their
+/// arguments nest deeper than the depth.
 #[cycle(weigh)]
 pub fn weigh_factors(us: &Atoms, budget: u32, depth: u32) -> Option<u32>
     ensures { MatchOption result ((budget < weight_of_factors (atoms us.now)) ⊎ (depth < nesting_of_factors (atoms us.now)))
@@ -44,7 +45,8 @@ pub fn weigh_factors(us: &Atoms, budget: u32, depth: u32) -> Option<u32>
     Some(left)
 }
 
-/// The same of arguments, which nest one level deeper than what is in them.
+/// What is left of the budget without the weight of the arguments; None where they weigh more than the budget, or nest
+/// deeper than the depth. Arguments nest one level deeper than what is in them.
 #[cycle(weigh)]
 #[inline(never)]
 pub fn weigh_arguments(ps: &Polys, budget: u32, depth: u32) -> Option<u32>

@@ -85,7 +85,7 @@ module _ (S : Symbols) (symbols : List Interpretation) (interprets : Interprets 
   call_step_le rules w c k cs s ts us p r =
       fed_step_le rules w c cs (sort s) (of_interpretations symbols k (arrows cs (sort s))) (interpretations_mono k (arrows cs (sort s))) ts us p r
 
-  -- the same for the steps of a system
+  -- no step of a system in an argument raises what a call is worth
   pub call_reduct_le : (rules : List RewriteRule) → AreWellMade S rules → RulesAreCovered symbols rules
       → (k : ℕ) (cs : List Ty) (s : ℕ) (ts us : List Tm) → AllTyped S [] [] (tms_of ts) cs
       → StepsIn (Step rules) ts us → call_value S symbols k cs s (tms_of us) ≤ call_value S symbols k cs s (tms_of ts)

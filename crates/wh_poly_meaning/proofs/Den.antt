@@ -58,7 +58,7 @@ pub den_multiply : (Γ : List Ty) (ψ : Valuation) (p q : Polynomial) → den Γ
 den_multiply Γ ψ zero_poly q = omega arith
 den_multiply Γ ψ (plus c us p) q = den_sum Γ ψ (scale c us q) (multiply p q) ∙ ap₂ (λ j k. j + k) (den_scale Γ ψ c us q) (den_multiply Γ ψ p q) ∙ omega arith
 
--- the same values at the variables of a scope, renumbered
+-- two valuations give the same values at the variables of a scope, which r renumbers
 abbrev pub Same : List Ty → (ℕ → ℕ) → Valuation → Valuation → Type 0
 Same Γ r ψ χ = (i : ℕ) (A : Ty) → HasType Γ i A → χ (r i) A ≡ ψ i A
 

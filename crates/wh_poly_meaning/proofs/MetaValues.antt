@@ -36,7 +36,7 @@ fits_declared-shift {S = S} {N = N} {Γ = Γ} {d = d} a g z h = record {
       (typed-rename (parameter_types d.args (a ∷ Γ)) (up_times (length d.args) suc) (up_times_typed d.args Γ (a ∷ Γ) suc (λ i b e. e)) h.typed);
 }
 
--- the same meanings, but for the meta-variables
+-- the meanings with other values for the meta-variables
 abbrev pub with_metas : Meanings → Valuation → Meanings
 with_metas m ζ = record { of_symbols = m.of_symbols; of_metas = ζ; of_free = m.of_free }
 

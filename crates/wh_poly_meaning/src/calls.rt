@@ -1,4 +1,5 @@
-//! What marked calls are worth.
+//! Laws on the values of marked calls: steps and covered pairs do not raise them, and strictly covered pairs lower
+//! them.
 
 ghost use Rattle.std.specs.Prelude.{List, ◌≤◌, ◌<◌};
 ghost use Rattle.wh_terms.specs.Typing.{Symbols};

@@ -1,4 +1,4 @@
-//! What covers by moves mean.
+//! Laws on covers by moves: a polynomial that covers another one means a number at least as great.
 
 ghost use Rattle.std.specs.Prelude.{List, ◌≤◌, ◌<◌};
 ghost use Rattle.wh_types.specs.Ty.{Ty};
@@ -13,7 +13,7 @@ pub fn covers_mean_at_least()
         → Normal scope right → IsCover left right moves → den scope v right ≤ den scope v left }
 {}
 
-/// One that covers it strictly means a greater number.
+/// A polynomial that strictly covers another one by moves means a greater number, under every monotone valuation.
 pub fn strict_covers_mean_greater()
     ensures { (scope : List Ty) (v : Valuation) (left right : Polynomial) (moves : List Transfer) → MonoValuation v → Normal scope left
         → Normal scope right → IsStrictCover left right moves → den scope v right < den scope v left }

@@ -1,4 +1,4 @@
-//! Pairs whose left sides cover the right ones.
+//! Laws on sets of pairs whose sides are covered: calls by the set end where calls by the kept pairs do.
 
 ghost use Rattle.std.specs.Prelude.{ℕ, ◌≡◌, ◌⊎◌, List, Bool, Contains, Some, slice_get};
 ghost use Rattle.wh_terms.specs.Typing.{Symbols};

@@ -1,4 +1,4 @@
-//! What terms mean, and that steps do not raise it.
+//! Laws on the values of terms: beta keeps them, covered steps do not raise them, and sides mean their polynomials.
 
 ghost use Rattle.std.specs.Prelude.{ℕ, List, [], ◌∷◌, ◌≡◌};
 ghost use Rattle.wh_types.specs.Ty.{Ty};

@@ -1,4 +1,4 @@
-//! What values of expressions mean.
+//! Laws on the values of expressions: evaluation keeps the meaning.
 
 ghost use Rattle.std.specs.Prelude.{List, ◌≡◌, ◌≤◌};
 ghost use Rattle.wh_types.specs.Ty.{Ty};

@@ -11,7 +11,7 @@ use Rattle.wh_poly_moves.specs.declared.flow.Flow.{Flow}
 use Rattle.wh_poly_moves.specs.Flows.{IsFlow, AreDistinct, units}
 use Rattle.wh_polycheck.proofs.AmountWalk.{if_other, if_same}
 
--- the moves take so many units more from one place and bring them to another
+-- the moves take `amount` units more from one place and bring them to another
 pub record AddTo (giver taker amount : ℕ) (old new : List Transfer) : Type 0 where
   pub from : (i : ℕ) → given_by i new ≡ given_by i old + (if giver == i then amount else 0)
   pub to : (j : ℕ) → taken_by j new ≡ taken_by j old + (if taker == j then amount else 0)

@@ -60,15 +60,15 @@ pub record AreKeptBut (lessened : ℕ → Type 0) (old new : List Transfer) : Ty
   pub to : (e : ℕ) → e < length old → (move_at new e).to ≡ (move_at old e).to
   pub amount : (e : ℕ) → e < length old → (lessened e → ⊥) → (move_at old e).amount ≤ (move_at new e).amount
 
--- so many units have gone from one monomial to the other, and the flow is still one between any two sides where the one
--- can give to the other (ours)
+-- `amount` units have gone from one monomial to the other, and the flow is still one between any two sides where the
+-- one can give to the other (ours)
 pub record HasGiven (old : Flow) (giver taker amount : ℕ) (new : Flow) : Type 0 where
   pub free : new.free.items ≡ slice_set old.free.items giver (slice_index old.free.items giver - amount)
   pub want : new.want.items ≡ slice_set old.want.items taker (slice_index old.want.items taker - amount)
   pub kept : AreKeptBut (λ e. ⊥) (transfers old.moves.items) (transfers new.moves.items)
   pub flow : (left right : List Monomial) → IsFlow left right old → CanGive left right giver taker → IsFlow left right new
 
--- so many units of a move have gone back (ours)
+-- `amount` units of a move have gone back (ours)
 pub record HasTakenBack (old : Flow) (place amount : ℕ) (new : Flow) : Type 0 where
   pub free : let giver = (move_at (transfers old.moves.items) place).from in new.free.items ≡ slice_set old.free.items giver
       (slice_index old.free.items giver + amount)
@@ -89,7 +89,7 @@ pub record IsRerouted (old : Flow) (place giver first : ℕ) (new : Flow) : Type
   pub flow : (left right : List Monomial) → IsFlow left right old
       → CanGive left right giver (move_at (transfers old.moves.items) place).to → IsFlow left right new
 
--- what is wanted is the same but at one right monomial (ours)
+-- two flows leave the same wanted, but at one right monomial (ours)
 abbrev pub WantsAlike : ℕ → Flow → Flow → Type 0
 WantsAlike root old new = (j : ℕ) → j ≢ root → slice_index new.want.items j ≡ slice_index old.want.items j
 

@@ -1,4 +1,4 @@
--- The search for a path along which a flow can grow.
+-- Paths along which a flow can grow, as a breadth-first search finds them.
 use Rattle.std.specs.Prelude.{ℕ, suc, ◌≡◌, ◌<◌, ◌≤◌, ◌+◌, Bool, true, false, IsTrue, Option, None, Some, IsSome, MatchOption, ◌⊎◌, ◌++◌, slice_set, List, [], ◌∷◌, length, map, slice_index, slice_index_or, All}
 use Rattle.wh_hopoly.specs.Moves.{Transfer}
 use Rattle.wh_poly.specs.declared.polynomial.Monomial.{Monomial}

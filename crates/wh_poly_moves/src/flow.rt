@@ -38,7 +38,7 @@ impl Flow {
         })
     }
 
-    /// So many units go from where they are free to where they are wanted.
+    /// `amount` units go from where they are free to where they are wanted.
     pub fn give(&mut self, giver: usize, taker: usize, amount: u128) -> Result<(), AllocError>
         requires flow { IsSomeFlow self.old }
         requires giver_here { giver < length self.old.free.items }
@@ -95,7 +95,7 @@ impl Flow {
         self.want[taker] -= amount;
     }
 
-    // So many units of a move go back.
+    // `amount` units of a move go back.
     fn take_back(&mut self, place: usize, amount: u128)
         requires flow { IsSomeFlow self.old }
         requires here { place < length self.old.moves.items }
@@ -109,8 +109,8 @@ impl Flow {
         self.want[taker] += amount;
     }
 
-    /// Units of a move come from another giver instead, as many as the move has and the other has free. The first
-    /// giver, which has these free then.
+    /// Units of a move come from another giver instead, as many as the move has and that giver has free. The answer is
+    /// the first giver, which has these units free then.
     pub fn reroute(&mut self, place: usize, giver: usize) -> Result<usize, AllocError>
         requires flow { IsSomeFlow self.old }
         requires here { place < length self.old.moves.items }

@@ -31,7 +31,7 @@ module _ (T : TaskData) where
     pub pairs_met : (p : PairData) → InSet T.pairs T.set p → IsMetBy T R p false
     pub strictly : (n : ℕ) (p : PairData) → slice_get T.set strict ≡ Some n → slice_get T.pairs n ≡ Some p → IsMetBy T R p true
 
-  -- none with coefficients in the ranges do (ours)
+  -- no readings with coefficients in the ranges fit (ours)
   abbrev pub IsExcluded : ℕ → List (List ℕ) → List (List ℕ) → Type 0
   IsExcluded strict low high =
       (lists : List (List ℕ)) (R : ReadingsData) → Fit strict lists R → LieIn low high lists → ⊥

@@ -1,4 +1,4 @@
--- What is told of ranges: that no readings in them let a pair go, or that none is lost with what was cut off.
+-- Ranges of coefficients in which no readings let a pair go, and cuts of ranges by which no such readings are lost.
 use Rattle.std.specs.Prelude.{ℕ, ◌≡◌, Bool, false, true, List, Some, length, slice_get, Contains}
 use Rattle.wh_terms.specs.Rules.{RewriteRule}
 use Rattle.wh_pairs.specs.PairData.{PairData}
@@ -17,11 +17,12 @@ use Rattle.wh_poly_ranges.specs.declared.bounds.Span.{Span}
 abbrev pub IsOut : Task → ℕ → Ranges → Type 0
 IsOut t strict r = IsExcluded (task_data t) strict (lists_of r.low) (lists_of r.high)
 
--- the same of ranges that are told by their ends alone
+-- no readings with coefficients in the ranges cover all, and the pair with this place strictly; the ranges are told by
+-- their ends alone
 abbrev pub IsSpanOut : Task → ℕ → Span → Type 0
 IsSpanOut t strict s = IsExcluded (task_data t) strict (lists_in s.low.items) (lists_in s.high.items)
 
--- so it is of each of these ranges
+-- each of the ranges is out
 abbrev pub AllOut : Task → ℕ → List Span → Type 0
 AllOut t strict spans = (s : Span) → Contains spans s → IsSpanOut t strict s
 
@@ -33,7 +34,8 @@ KeepsAll t strict old new = AreKept (task_data t) strict (lists_of old.low) (lis
 abbrev pub IsRuleOut : ReadingsData → ReadingsData → RewriteRule → Type 0
 IsRuleOut low high r = IsRefuted (length r.metas) (rule_run high r false).result (rule_run low r true).result false
 
--- and so is it of the pair with this place in the set
+-- by numbers the left side of the pair with this place in the set, under the upper readings, is too small for its right
+-- side under the lower ones
 abbrev pub IsPairOut : TaskData → ReadingsData → ReadingsData → ℕ → Bool → Type 0
 IsPairOut T low high place strict =
     (n : ℕ) × (p : PairData) × (slice_get T.set place ≡ Some n) × (slice_get T.pairs n ≡ Some p)

@@ -1,4 +1,4 @@
-//! Ranges of coefficients, told by their ends.
+//! Ranges of coefficients, told by their ends, and how ends are cut off.
 
 ghost use Rattle.std.specs.Prelude.{◌≡◌, IfOk, OnOk, [], get_or, map, replicate, set};
 ghost use Rattle.wh_pairs.specs.Marked.{AreMarked};
@@ -39,7 +39,7 @@ pub enum End {
     High,
 }
 
-/// That an end of some coefficient of the list with the number was cut off.
+/// An end of some coefficient of the list with this number was cut off.
 #[derive(Clone, Copy)]
 pub struct Cut {
     pub number: usize,
@@ -69,7 +69,7 @@ impl Span {
 }
 
 impl Ranges {
-    /// Those with these ends.
+    /// The ranges with these ends.
     pub fn by<'a>(
         alloc: Global,
         task: &Task<'a>,
@@ -154,7 +154,7 @@ pub fn write(lists: &mut Vec<Vec<u8>>, at: Coefficient, value: u8)
     }
 }
 
-// So of one list.
+// The coefficient at the place of one list gets the value, where there is one.
 fn write_at(list: &mut Vec<u8>, place: usize, value: u8)
     ensures { list.new.items ≡ set list.old.items place value }
 {
@@ -163,7 +163,7 @@ fn write_at(list: &mut Vec<u8>, place: usize, value: u8)
     }
 }
 
-/// So many equal coefficients in each list.
+/// For each size a list of that length, in which each coefficient is `value`.
 pub fn all_equal(alloc: Global, sizes: &[usize], value: u8) -> Result<Vec<Vec<u8>>, AllocError>
     ensures { IfOk result (λ lists. lists_in lists.items ≡ map (λ size. replicate size value) sizes.now) }
 {

@@ -1,4 +1,4 @@
-//! Where ranges are split. Answers rest on none of this.
+//! The choice of a coefficient at which ranges are split. No answer rests on it.
 
 ghost use Rattle.std.specs.Prelude.{OnOk};
 ghost use Rattle.wh_pairs.specs.Marked.{AreMarked};

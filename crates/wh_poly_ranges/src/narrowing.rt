@@ -1,4 +1,4 @@
-//! Ranges made narrower: ends that no interpretation has are cut off.
+//! Narrowing ranges: ends that no interpretation in them has are cut off. `narrow_all` is the main function.
 
 ghost use Rattle.std.specs.Bool.{OnTrue};
 ghost use Rattle.std.specs.Prelude.{◌<◌, IfOk, OnOk};
@@ -14,7 +14,7 @@ use std::alloc::{AllocError, Global};
 use wh_poly_space::MAX_COEFFICIENT;
 use wh_reduction_pairs::Task;
 
-/// That ends of one kind are cut off for a condition.
+/// A condition, and the kind of ends that are cut off for it.
 #[derive(Clone, Copy)]
 pub struct Cutting {
     pub goal: Goal,
@@ -75,7 +75,7 @@ fn narrow<'a>(
     Ok(())
 }
 
-// Cuts off lower ends of what is used on the left side, or upper ends of what is used on the right side.
+// Cuts off lower ends of the readings of symbols on the left side, or upper ends of those on the right side.
 fn cut_side<'a>(
     alloc: Global,
     task: &Task<'a>,
@@ -166,7 +166,7 @@ fn cut<'a>(
     }
 }
 
-// The lower end goes up by one, if the condition can't be met where the coefficient is there.
+// The lower end goes up by one, if the condition can't be met where the coefficient is there. Answers whether it did.
 fn raise<'a>(
     alloc: Global,
     task: &Task<'a>,
@@ -192,7 +192,7 @@ fn raise<'a>(
     Ok(out)
 }
 
-// The upper end goes down by one, if the condition can't be met where the coefficient is there.
+// The upper end goes down by one, if the condition can't be met where the coefficient is there. Answers whether it did.
 fn lower<'a>(
     alloc: Global,
     task: &Task<'a>,

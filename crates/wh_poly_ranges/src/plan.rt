@@ -1,5 +1,5 @@
-//! What guides the search in ranges: which conditions use what, and which of them wait to be looked at. Answers rest on
-//! none of this.
+//! What guides the search in ranges: which symbols stand in which conditions, and which conditions wait to be looked
+//! at. Answers rest on none of this.
 
 ghost use Rattle.wh_pairs.specs.Marked.{AreMarked};
 ghost use Rattle.wh_reduction_pairs.specs.TaskView.{task_data};
@@ -11,8 +11,8 @@ use std::collections::VecDeque;
 use wh_poly_guesses::{Uses, uses_of};
 use wh_reduction_pairs::Task;
 
-/// What is used on the two sides of each condition, the conditions on whose left and on whose right side each number is
-/// used, and how often a condition is looked at at most.
+/// The plan of a search: the symbols on the two sides of each condition, the conditions on whose left and on whose
+/// right side each symbol stands, and the greatest number of looks at one condition.
 #[derive(Drop)]
 pub struct Plan {
     pub uses: Vec<Uses>,
@@ -54,7 +54,8 @@ impl Plan {
         })
     }
 
-    /// What is used on the side of the condition at which that end is cut off: the left one for lower ends.
+    /// The symbols on the side of the condition at which this end is cut off: the left side for lower ends, the right
+    /// side for upper ones.
     pub fn read_at(&self, condition: usize, end: End) -> &[usize] {
         match self.uses.get(condition) {
             Some(uses) => side_of(uses, end),
@@ -62,8 +63,8 @@ impl Plan {
         }
     }
 
-    /// The conditions for which it matters that an end of what has the number was cut off: a lower one on right sides,
-    /// an upper one on left sides.
+    /// The conditions that are to be looked at again once an end of the symbol with the number was cut off: for a lower
+    /// end those with the symbol on the right side, for an upper end those with it on the left side.
     pub fn touched_by(&self, number: usize, end: End) -> &[usize] {
         let holders = match end {
             End::Low => &self.on_right,
@@ -75,14 +76,14 @@ impl Plan {
         }
     }
 
-    /// In how many conditions what has the number is used.
+    /// In how many conditions the symbol with the number stands.
     pub fn weight_of(&self, number: usize) -> usize {
         let left = self.touched_by(number, End::High).len();
         left.saturating_add(self.touched_by(number, End::Low).len())
     }
 }
 
-// What is used on the side at which that end is cut off.
+// The symbols on the side at which this end is cut off.
 fn side_of(uses: &Uses, end: End) -> &[usize] {
     match end {
         End::Low => &uses.left,
@@ -102,7 +103,7 @@ impl Work {
         Ok(work)
     }
 
-    // All of so many conditions wait.
+    // All of the conditions with numbers below `conditions` wait.
     fn wake_all(&mut self, conditions: usize) -> Result<(), AllocError> {
         for condition in 0..conditions {
             self.add(condition)?;
@@ -125,7 +126,7 @@ impl Work {
         Ok(())
     }
 
-    // None waits.
+    // No condition waits any more.
     fn clear(&mut self) {
         self.waiting.clear();
         self.is_waiting.fill(false);
@@ -162,18 +163,18 @@ impl Work {
         Some(condition)
     }
 
-    /// So much is done.
+    /// Work of this amount is done.
     pub fn spend(&mut self, amount: u64) {
         self.left = self.left.saturating_sub(amount);
     }
 
-    /// Whether none is left.
+    /// Whether no work is left.
     pub fn is_spent(&self) -> bool {
         self.left == 0
     }
 }
 
-// For each of so many numbers the conditions in which it is used on the side at which that end is cut off.
+// For each of `count` numbers the conditions with that symbol on the side at which this end is cut off.
 fn holders_of(
     alloc: Global,
     all: &[Uses],

@@ -20,7 +20,7 @@ use wh_poly_space::MAX_COEFFICIENT;
 use wh_reduction_pairs::Task;
 
 /// Whether ranges of coefficients show that no interpretation of the space lets a pair of the set go. The search ends
-/// after so much work, a look at a condition or more where its sides are large, and then shows nothing.
+/// after `limit` looks at conditions, where a look at large sides counts as several, and then shows nothing.
 ///
 /// Each pair in turn is asked to be covered strictly.
 pub fn has_none<'a>(

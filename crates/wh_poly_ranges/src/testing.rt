@@ -1,4 +1,5 @@
-//! Ranges in which a condition can't be met, as numbers show.
+//! The test whether a condition can be met in ranges: the left side at the upper ends against the right side at the
+//! lower.
 
 ghost use Rattle.std.specs.Bool.{OnTrue};
 ghost use Rattle.std.specs.Prelude.{◌≡◌, ◌<◌, IfOk, Some, length, slice_get};

@@ -68,7 +68,7 @@ pub record AreSpotsTo (Γ : List Ty) (a b : ℕ) (spots : List Spot) : Type 0 wh
   pub below : All (λ s. IsBefore s a b) spots
   pub all : (s : Spot) → IsSpot Γ s → IsBefore s a b → Contains spots s
 
--- it has all spots of the scope
+-- the list has all spots of the scope, in order
 abbrev pub AreAllSpots : List Ty → List Spot → Type 0
 AreAllSpots Γ spots = AreSpotsTo Γ (suc (length Γ)) 0 spots
 

@@ -20,7 +20,8 @@ use wh_types::SimpleType;
 pub struct Place {
     /// The place of the variable alone.
     pub alone: usize,
-    /// Of a functional variable, where its row of products begins; of one of a sort, where it stands in each row.
+    /// For a functional variable, where its row of products begins; for a variable of a sort, where it stands in each
+    /// row.
     pub row: usize,
 }
 
@@ -50,7 +51,7 @@ pub fn places_of(alloc: Global, scope: &[SimpleType]) -> Result<Vec<Place>, Allo
     Ok(places)
 }
 
-// The start of a scope with so many variables of a sort and so many functional ones.
+// The start of the walk through a scope with `sorts` variables of a sort and `functional` functional ones.
 fn first_walk(sorts: usize, functional: usize) -> Walk
     ensures { (Γ : List Ty) → sorts ≡ length (sort_variables Γ) → functional ≡ length (functional_variables Γ) → IsWalk Γ 0 result }
 {

@@ -1,5 +1,5 @@
-//! A small generator of numbers by chance, which begins with a fixed one: so each search goes the same way when it is
-//! run again.
+//! A small generator of pseudo-random numbers. It begins with a fixed number, so each search goes the same way when it
+//! is run again.
 
 ghost use Rattle.std.specs.Prelude.{◌<◌};
 

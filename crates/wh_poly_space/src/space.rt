@@ -1,4 +1,4 @@
-//! The monomials that are tried in a scope, and the polynomials made of them.
+//! The space of interpretations that is tried: sums of few monomials with coefficients of at most 3.
 
 ghost use Rattle.std.specs.Prelude.{ℕ, ◌≡◌, ◌<◌, IfOk, get_or, if◌then◌else◌, length};
 ghost use Rattle.wh_types.specs.Erase.{ty, tys};
@@ -23,11 +23,11 @@ pub const MAX_COEFFICIENT: u8 = 3;
 /// Which variables of the scope a monomial has.
 #[derive(Clone, Copy)]
 pub enum Spot {
-    /// None.
+    /// The monomial has no variable.
     Constant,
-    /// This one.
+    /// The monomial has this variable alone.
     One(usize),
-    /// These two, of which one is of a sort and one functional; the lesser number first.
+    /// The monomial has these two, of which one is of a sort and one functional; the lesser number comes first.
     Two(usize, usize),
 }
 
@@ -38,9 +38,9 @@ pub fn is_sort(kind: &SimpleType) -> bool
     matches!(kind, SimpleType::Sort(_))
 }
 
-/// What a symbol with these types of arguments is read as, by the coefficients of the monomials in the order of the
-/// space; those that are missing are 0, and those above 3 count as 3. A variable with a number beyond 32 bits is told
-/// as want of memory.
+/// The interpretation of a symbol with these types of arguments, by the coefficients of the monomials in the order of
+/// the space; those that are missing are 0, and those above 3 count as 3. Where a variable has a number beyond 32 bits
+/// the answer is want of memory.
 pub fn reading_of(
     alloc: Global,
     scope: &[SimpleType],

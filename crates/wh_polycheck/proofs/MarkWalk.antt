@@ -21,7 +21,7 @@ place_behind (y ∷ xs) zero x f within there other =
     let h : y.symbol ≡ f → ⊥ = λ e. other (ap (λ m. m.symbol) there ∙ e) in grind (arith, h)
 place_behind (y ∷ xs) (suc i) x f within there other = place_behind xs i x f (omega arith) there other
 
--- so many marks are passed
+-- the first i marks are passed: none of them is of f
 abbrev pub Passed : List MarkedSymbol → ℕ → ℕ → Type 0
 Passed xs f i = place_of (marks_of xs) f ≡ i + place_of (marks_of (drop i xs)) f
 

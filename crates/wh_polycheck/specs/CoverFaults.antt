@@ -24,7 +24,7 @@ IsFirstBad left right ms e =
 abbrev pub IsOverSpent : Polynomial → List Transfer → ℕ → Type 0
 IsOverSpent left ms i = (c : ℕ) × (us : Factors) × MonomialAt left i c us × (c < given_by i ms)
 
--- it is the first one that does (ours)
+-- the left monomial i is the first one that gives more than its coefficient (ours)
 abbrev pub IsFirstOverSpent : Polynomial → List Transfer → ℕ → Type 0
 IsFirstOverSpent left ms i = IsOverSpent left ms i × ((k : ℕ) → k < i → NotOverSpent left ms k)
 
@@ -32,7 +32,7 @@ IsFirstOverSpent left ms i = IsOverSpent left ms i × ((k : ℕ) → k < i → N
 abbrev pub IsNotCovered : Polynomial → List Transfer → ℕ → Type 0
 IsNotCovered right ms j = (c : ℕ) × (us : Factors) × MonomialAt right j c us × (taken_by j ms < c)
 
--- it is the first one that does (ours)
+-- the right monomial j is the first one that gets less than its coefficient (ours)
 abbrev pub IsFirstNotCovered : Polynomial → List Transfer → ℕ → Type 0
 IsFirstNotCovered right ms j = IsNotCovered right ms j × ((k : ℕ) → k < j → Covered right ms k)
 

@@ -18,7 +18,7 @@ use Rattle.wh_polycheck.specs.Readings.{ReadingsData, AreNormal, AreReadingsFor}
 abbrev pub rule_run : ReadingsData → RewriteRule → Bool → Run Polynomial
 rule_run R r right = evaluate R.symbols (types_of_metas r.metas) (side_expression r.metas (side_of right r))
 
--- and that of a side of a pair, whose marked symbols have interpretations of their own (Fuhs and Kop 2012)
+-- the evaluation of a side of a pair, whose marked symbols have interpretations of their own (Fuhs and Kop 2012)
 abbrev pub pair_run : Symbols → List RewriteRule → ReadingsData → PairData → Bool → Run Polynomial
 pair_run S rules R p right =
     evaluate (with_marks S rules R.symbols R.marks) (types_of_metas p.metas)

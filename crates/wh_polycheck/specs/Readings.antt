@@ -18,7 +18,7 @@ pub record AreNormal (S : Symbols) (rules : List RewriteRule) (R : ReadingsData)
   pub symbols : NormalInterpretations R.symbols
   pub marks : AreNormalMarks S rules R.marks
 
--- besides, each symbol has an interpretation of its type: so sides have values
+-- each polynomial is normal, and each symbol has an interpretation of its type: so sides have values
 pub record AreProper (S : Symbols) (rules : List RewriteRule) (R : ReadingsData) : Type 0 where
   pub interpreted : Interprets S R.symbols
   pub normal : AreNormal S rules R

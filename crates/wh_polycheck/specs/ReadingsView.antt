@@ -1,4 +1,4 @@
--- What `Readings` stand for.
+-- The data that `Readings` of the program stand for.
 use Rattle.wh_hopoly.specs.Erase.{interpretations}
 use Rattle.wh_polycheck.specs.SideResults.{marks_of}
 use Rattle.wh_polycheck.specs.Readings.{ReadingsData}

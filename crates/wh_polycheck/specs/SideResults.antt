@@ -1,4 +1,4 @@
--- What the calls that evaluate sides answer.
+-- The answers of the calls that evaluate a side of a rule or of a pair.
 use Rattle.std.specs.Prelude.{List, Bool, map}
 use Rattle.wh_terms.specs.Tree.{Tm}
 use Rattle.wh_terms.specs.Typing.{Symbols, Declared}
@@ -37,7 +37,8 @@ abbrev pub IsFaultOfSide : List Interpretation → List Declared → Tm → Poly
 IsFaultOfSide symbols M t e =
     HasExcess (IsValueOfSide symbols M t) e × IsFaultOf symbols (types_of_metas M) (side_expression M t) e
 
--- the same of a side of a pair, whose expression is a marked symbol with the side's arguments
+-- p is the normal form of a side of a pair, whose expression is a marked symbol with the side's arguments, and no value
+-- on the way to it exceeds a limit
 abbrev pub PairSideComesTo : Symbols → List RewriteRule → List Interpretation → List Mark → PairData → Bool → Polynomial → Type 0
 PairSideComesTo S rules symbols marks a right p =
     IsNormOfPairSide S rules symbols marks a right p

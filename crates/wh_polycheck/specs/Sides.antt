@@ -1,5 +1,4 @@
--- Sides of rules and of pairs as expressions in the scope of their meta-variables, and what it is that they are
--- covered.
+-- Sides of rules and of pairs as expressions in the scope of their meta-variables, and when moves cover them.
 use Rattle.std.specs.Prelude.{ℕ, suc, ◌-◌, List, [], ◌∷◌, ◌++◌, length, ◌≡◌, Some, slice_get, Contains}
 use Rattle.wh_types.specs.Ty.{Ty, ◌⇒◌}
 use Rattle.wh_terms.specs.Tree.{Tm, bound, free, fun, meta, lam, app, Tms, none, more}
@@ -53,7 +52,7 @@ marked_expression M k ts = side_applied (length (types_of_metas M)) (symbol k) t
 abbrev pub side_polynomial : List Interpretation → List Declared → Tm → Polynomial
 side_polynomial symbols M t = (evaluate symbols (types_of_metas M) (side_expression M t)).result
 
--- and that of a marked side in the scope of its meta-variables (Fuhs and Kop 2012)
+-- the polynomial of a marked side in the scope of its meta-variables (Fuhs and Kop 2012)
 abbrev pub call_polynomial : List Interpretation → List Declared → ℕ → Tms → Polynomial
 call_polynomial symbols M k ts = (evaluate symbols (types_of_metas M) (marked_expression M k ts)).result
 
@@ -70,7 +69,7 @@ abbrev pub RuleIsCovered : List Interpretation → RewriteRule → Type 0
 RuleIsCovered symbols r =
     (ms : List Transfer) × IsCover (side_polynomial symbols r.metas r.left) (side_polynomial symbols r.metas r.right) ms
 
--- so it is for every rule
+-- moves show for every rule that its left side is at least its right side
 abbrev pub RulesAreCovered : List Interpretation → List RewriteRule → Type 0
 RulesAreCovered symbols rules = (r : RewriteRule) → Contains rules r → RuleIsCovered symbols r
 

@@ -1,4 +1,4 @@
-//! Covers: the tests in their order.
+//! Covers: `check_weak` and `check_strict` test a list of moves between two polynomials.
 
 ghost use Rattle.std.specs.Prelude.{◌≤◌, ◌^◌, MatchResult, length};
 ghost use Rattle.wh_poly.specs.Erase.{monomials, poly};

@@ -11,7 +11,7 @@ use wh_hopoly::Expr;
 use wh_terms::{Term, Terms};
 use wh_types::sum;
 
-/// The term as an expression in a scope of so many variables.
+/// The term as an expression in a scope of `scope` variables.
 #[cycle(expressions)]
 pub fn expression_of(alloc: Global, term: &Term, scope: u32) -> Result<Expr, AllocError>
     ensures { IfOk result (λ e. expression e ≡ side scope (tm term.now)) }

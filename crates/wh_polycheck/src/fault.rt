@@ -1,4 +1,4 @@
-//! What can be wrong with a cover.
+//! The faults of a cover: which test a list of moves fails first.
 
 /// The first test that a list of moves fails.
 #[derive(Clone, Copy)]

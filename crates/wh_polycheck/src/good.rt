@@ -44,8 +44,9 @@ fn is_good(left: &[Monomial], right: &[Monomial], item: &Move) -> bool
     are_factors_at_least(&giver.atoms, &taker.atoms)
 }
 
-/// Whether both lists have the same variables in order, each with arguments that are at least the other's: then a unit
-/// of a monomial with the first may be moved to one with the second (ours, after absolute positiveness).
+/// Whether the two lists have the same variables in order, and each argument on the left is at least the one on the
+/// right. Then a unit of a monomial with the first list may be moved to one with the second (ours, after absolute
+/// positiveness).
 pub fn are_factors_at_least(a: &Atoms, b: &Atoms) -> bool
     requires left { (scope : List Ty) × NormalFactors scope (atoms a.now) }
     requires right { (scope : List Ty) × NormalFactors scope (atoms b.now) }

@@ -1,4 +1,4 @@
-//! Laws of sides, each the contract of a function that does nothing.
+//! Laws of sides: which interpretations and marks give every symbol of a side a meaning.
 
 ghost use Rattle.std.specs.Prelude.{ℕ, ◌≡◌, ◌↔◌, List, Contains, map};
 ghost use Rattle.wh_terms.specs.Typing.{Symbols};

@@ -1,4 +1,4 @@
-//! Marked symbols: what they are read as, and their types.
+//! Marked symbols: their interpretations, and the types of these.
 
 ghost use Rattle.std.specs.Prelude.{◌≡◌, Some, IfOk, length, slice_get, take};
 ghost use Rattle.wh_types.specs.Erase.{ty};
@@ -15,7 +15,7 @@ use wh_poly::Poly;
 use wh_system::System;
 use wh_types::SimpleType;
 
-/// What the marked symbol of a symbol with rules is read as.
+/// The interpretation of the marked symbol of a symbol with rules.
 #[derive(Drop)]
 pub struct MarkedSymbol {
     /// The number of the symbol.
@@ -24,12 +24,12 @@ pub struct MarkedSymbol {
     pub poly: Poly,
 }
 
-/// What the symbols of a system, and the marked symbols of a set of its pairs, are read as (Fuhs and Kop 2012).
+/// The interpretations of the symbols of a system, and of the marked symbols of a set of its pairs (Fuhs and Kop 2012).
 #[derive(Clone, Copy)]
 pub struct Readings<'a> {
-    /// What each symbol is read as, by its number.
+    /// The interpretation of each symbol, by its number.
     pub symbols: &'a [Symbol],
-    /// What each marked symbol of the set is read as, in order.
+    /// The interpretation of each marked symbol of the set, in order.
     pub marks: &'a [MarkedSymbol],
 }
 

@@ -80,7 +80,9 @@ fn normal_of_side(
 }
 
 /// The normal form of the right side of a pair, or of its left side, in the scope of the pair's meta-variables, where
-/// symbols and marked symbols are read as `readings` say (Fuhs and Kop 2012). `Ok` and `Err` as for a rule.
+/// symbols and marked symbols are read as `readings` say (Fuhs and Kop 2012).
+///
+/// `Err` comes only where some value in the evaluation exceeds the limit that it names, and `Ok` only where none does.
 pub fn side_of_pair<'a>(
     alloc: Global,
     system: &System,

@@ -1,4 +1,4 @@
--- One node after another: what a node's lines come to on a set, and that lines prove sets.
+-- One node after another: which sets a node leaves of a set, and that the lines of nodes prove sets.
 use Rattle.std.specs.Prelude.{◌≡◌, ◌++◌, ℕ, List}
 use Rattle.wh_system.specs.Systems.{SystemData}
 use Rattle.wh_pairs.specs.PairData.{PairData}

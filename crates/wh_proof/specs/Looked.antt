@@ -87,7 +87,7 @@ abbrev pub covered_rules : Option (List ℕ) → ℕ → List ℕ
 covered_rules (Some listed) n = listed
 covered_rules None n = numbers_from 0 n
 
--- these are rules of the system, each above the one before
+-- the rules that are to be covered are rules of the system, each above the one before
 abbrev pub CoversRules : SystemData → Option (List ℕ) → Type 0
 CoversRules d usable = AreRulesInOrder (length d.rules) (covered_rules usable (length d.rules))
 

@@ -1,4 +1,4 @@
--- When a list of nodes, in preorder, is a termination proof.
+-- `Proves`: a list of nodes, in preorder, is a termination proof for some sets of pairs.
 use Rattle.std.specs.Prelude.{ℕ, List, [], ◌∷◌, ◌++◌}
 use Rattle.wh_terms.specs.Typing.{Symbols}
 use Rattle.wh_terms.specs.Rules.{RewriteRule}

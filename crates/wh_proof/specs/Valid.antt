@@ -29,7 +29,7 @@ abbrev pub IsValidCert : SystemData → List PairData → Cert → Type 0
 IsValidCert d ps (yes version ranks pairs lines) = IsValidYes d ps ranks pairs lines
 IsValidCert d ps (no t steps at puts) = IsValidNo d (no t steps at puts)
 
--- so is a certificate; a NO certificate has no nodes
+-- the certificate is small: no value exceeds a limit where the sides are evaluated; a NO certificate has no nodes
 abbrev pub IsSmallCert : SystemData → List PairData → Cert → Type 0
 IsSmallCert d ps (yes version ranks pairs lines) = IsSmallYes d ps lines
 IsSmallCert d ps (no t steps at puts) = Unit {0}

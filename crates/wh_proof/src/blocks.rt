@@ -1,4 +1,4 @@
-//! The sets that a node `blocks` leaves.
+//! The sets of pairs that a node `blocks` leaves to be proved.
 
 ghost use Rattle.std.specs.Prelude.{◌≡◌, ◌++◌, ℕ, List, OnOk, reverse};
 ghost use Rattle.wh_proof.specs.Nodes.{AreSetsOf};

@@ -1,4 +1,4 @@
-//! The choices that the lines `arg` of a node say.
+//! The choices of arguments that the lines `arg` of a node say, with names looked up.
 
 ghost use Rattle.std.specs.Prelude.{◌≡◌, ◌≤◌, ◌<◌, ◌^◌, ◌↔◌, ℕ, List, IfOk, IsTrue, MatchOption, Some, length, map, slice_get};
 ghost use Rattle.wh_pairs.specs.PairData.{IsIncreasing};

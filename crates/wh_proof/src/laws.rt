@@ -1,4 +1,4 @@
-//! That lines and nodes undo each other: the contract of a function that does nothing.
+//! The law that lines and nodes undo each other, the contract of a function that does nothing.
 
 ghost use Rattle.std.specs.Prelude.{◌≡◌};
 ghost use Rattle.wh_system.specs.Systems.{SystemData};

@@ -1,4 +1,4 @@
-//! The rules that a node of interpretations is to cover.
+//! The rules that a node of interpretations is to cover: those that it lists, or all rules.
 
 ghost use Rattle.std.specs.Prelude.{◌≡◌, IfOk, MatchOption, length};
 ghost use Rattle.wh_system.specs.SystemView.{system_data};

@@ -1,4 +1,4 @@
--- Computable meta-substitutions.
+-- Computable meta-substitutions: each body is computable at its type.
 use Rattle.std.specs.Prelude.{ℕ, List, []}
 use Rattle.wh_terms.specs.Tree.{Tm, bound, free, tms_of}
 use Rattle.wh_terms.specs.Substitution.{act}

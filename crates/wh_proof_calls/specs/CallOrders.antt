@@ -14,7 +14,7 @@ pub record Orders (A : Type 0) : Type 1 where
   pub less : A → A → Type 0
   pub not_more : A → A → Type 0
 
--- those of the numbers
+-- the two orders of the numbers
 abbrev pub by_numbers : Orders ℕ
 by_numbers = record { less = λ a b. b < a; not_more = λ a b. b ≤ a }
 
@@ -41,6 +41,6 @@ pub record AreMeasured (S : Symbols) (rules : List RewriteRule) (R : Tm → Tm �
   pub measured : (c d : MarkedCall) → IsTypedCall S rules d → SomePairStep S R P c d → (a : A) × measures d a × Ends order.less a
   -- what a call with a measure leads to by a step in an argument has one that is not more
   pub arguments : (c d : MarkedCall) (a : A) → IsTypedCall S rules c → measures c a → ArgumentsStep R c d → HasNoMore order measures a d
-  -- and what it leads to by a pair has one that is less, or one that is not more where Q holds of the pair
+  -- a call that a pair leads to has a measure that is less, or one that is not more where Q holds of the pair
   pub pairs : (p : PairData) (c d : MarkedCall) (a : A) → P p → IsTypedCall S rules c → measures c a → PairStep S R p c d
       → ((Q p × HasNoMore order measures a d) ⊎ HasLess order measures a d)

@@ -40,7 +40,7 @@ pub record PairLeads (S : Symbols) (p : PairData) (c d : MarkedCall) : Type 0 wh
   pub right_symbol : d.symbol ≡ p.right_fun
   pub right : Values bodies (tms_of p.right) (tms_of d.arguments)
 
--- besides, the arguments of d end by the steps R (Fuhs and Kop 2019, the minimal chains)
+-- the pair leads from c to d, and the arguments of d end by the steps R (Fuhs and Kop 2019, the minimal chains)
 pub record PairStep (S : Symbols) (R : Tm → Tm → Type 0) (p : PairData) (c d : MarkedCall) : Type 0 where
   pub leads : PairLeads S p c d
   pub minimal : AllByRecursion (Ends R) d.arguments

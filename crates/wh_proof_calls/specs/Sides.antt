@@ -32,8 +32,8 @@ IsComputableUnder S rank R g c = (τ : ℕ → Tm) (vs : List Tm) (cs : List Ty)
     → Typed S [] [] (spine (fun c.symbol) (map (act τ free) vs)) b → Computable S rank R b (spine (fun c.symbol) (map (act τ free) vs))
 
 -- the rule leads from the marked call `from` to `to` by a call of its right side: from the value of the left side to
--- that of the call, with well-typed terms for the binders around the call, with as many arguments as the rules of its
--- symbol have, and with any well-typed terms for those that it lacks (Kop 2012; Fuhs and Kop 2019)
+-- the value of that call. For the binders around the call there are well-typed terms; the call gets as many arguments
+-- as the rules of its symbol have, and any well-typed terms for those that it lacks (Kop 2012; Fuhs and Kop 2019)
 pub record IsLedByCall (S : Symbols) (r : RewriteRule) (c : Call) (from to : MarkedCall) : Type 0 where
   pub bodies : ℕ → Body
   pub typed_bodies : TypedBodies S r.metas [] [] bodies r.left

@@ -1,4 +1,4 @@
-//! From calls that end to terms that are bounded.
+//! From calls that end to terms that are bounded: the laws that tie dependency pairs to termination.
 
 ghost use Rattle.std.specs.Prelude.{ℕ, ◌≡◌, List, Some, slice_get, Contains};
 ghost use Rattle.wh_types.specs.Ty.{Ty};
@@ -27,7 +27,8 @@ pub fn symbols_are_computable_where_calls_end()
         → (f : ℕ) (a : Ty) → slice_get d.symbols.funs f ≡ Some a → Computable d.symbols (rank_of ranks) (Step d.rules) a (fun f) }
 {}
 
-/// And so each well-typed term is bounded: there is a number that no reduction from it exceeds in length.
+/// Where a system is passing under ranks and the calls of its pairs lead to no endless sequence, each well-typed term
+/// is bounded: there is a number that no reduction from it exceeds in length.
 pub fn terms_are_bounded_where_calls_end()
     ensures { (d : SystemData) (ranks : List ℕ) (ps : List PairData) → IsWellMadeSystem d → IsPassing d ranks
         → ArePairs (candidates d.symbols d.rules) ps → CallsEnd d.symbols d.rules (Step d.rules) (Contains ps)

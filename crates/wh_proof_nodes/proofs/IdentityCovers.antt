@@ -69,7 +69,7 @@ itself_covers = record {
   covered = λ j. itself_covered j 0;
 }
 
--- those of the second rule: nothing covers nothing
+-- the moves of the second rule: nothing covers nothing
 nothing_covers : IsCover zero_poly zero_poly []
 nothing_covers = record {
   good = λ m never. absurd (none_there m never);
@@ -77,7 +77,7 @@ nothing_covers = record {
   covered = λ j c us never. absurd never;
 }
 
--- those of the pair: 1 + X covers X, and the constant is left over
+-- the moves of the pair: 1 + X covers X, and the constant is left over
 
 one_more_good : Good one_more itself (unit_from 1)
 one_more_good = record {

@@ -143,7 +143,7 @@ none_kept = record {
   each = λ n. ((λ never. absurd (none_there n never)), (λ (there, kept). absurd (kept there)));
 }
 
--- both rules are to be covered
+-- the two rules are to be covered
 count_usable : IsUsable count_task
 count_usable = record {
   increasing = (omega arith, tt);

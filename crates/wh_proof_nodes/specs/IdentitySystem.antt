@@ -55,7 +55,7 @@ identity_system = record {
   meta_names = (codes "X" ∷ []) ∷ (codes "X" ∷ []) ∷ [];
 }
 
--- its pairs: 0 is t# (s X) => t# (i X)
+-- the pair 0 of the system: t# (s X) => t# (i X)
 abbrev pub count_pair : PairData
 count_pair = record {
   rule = 1;
@@ -67,7 +67,7 @@ count_pair = record {
   conditions = [];
 }
 
--- and 1 is t# (s X) => i# X
+-- the pair 1 of the system: t# (s X) => i# X
 abbrev pub call_pair : PairData
 call_pair = record {
   rule = 1;
@@ -120,7 +120,7 @@ abbrev pub identity_nodes : List Node
 identity_nodes =
     blocks ((0 ∷ []) ∷ (1 ∷ []) ∷ []) ∷ poly count_task.covered readings count_moves ∷ done ∷ alone ∷ []
 
--- or the node lists the rule of i alone, which is all that the first pair calls
+-- the moves of a node that lists the rule of i alone, which is all that the first pair calls
 abbrev pub listed_moves : Evidence (List Transfer)
 listed_moves = record {
   of_rules = (unit_from 0 ∷ []) ∷ [];

@@ -67,7 +67,7 @@ map_system = record {
   meta_names = (codes "F" ∷ []) ∷ (codes "F" ∷ codes "X" ∷ codes "Y" ∷ []) ∷ [];
 }
 
--- its one pair: map# (\x:nat.F[x]) (cons X Y) => map# (\x:nat.F[x]) Y
+-- the one pair of the system: map# (\x:nat.F[x]) (cons X Y) => map# (\x:nat.F[x]) Y
 abbrev pub map_pair : PairData
 map_pair = record {
   rule = 1;

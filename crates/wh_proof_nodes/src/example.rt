@@ -16,9 +16,9 @@ pub fn terms_over_map_are_bounded()
     ensures { (t : Tm) → WellTyped map_system.symbols t → Bounded map_system.rules t }
 {}
 
-/// They are so by a path order too: a proof with one node of filters and inferences proves the system's pair, and the
-/// law on proved systems makes of it that well-typed terms are bounded. Behind its mark map keeps the list alone (Kop
-/// 2012).
+/// Each well-typed term over the system `map` is bounded, by a path order: a proof with one node of filters and
+/// inferences proves the system's pair, and the law on proved systems makes of it that well-typed terms are bounded.
+/// The filter of the marked map keeps the list alone (Kop 2012).
 pub fn terms_over_map_are_bounded_by_an_order()
     ensures proved { Proves map_symbols map_system.rules (map_pair ∷ []) ((0 ∷ []) ∷ []) map_order_nodes }
     ensures bounded { (t : Tm) → WellTyped map_system.symbols t → Bounded map_system.rules t }
@@ -32,9 +32,9 @@ pub fn terms_over_identity_are_bounded()
     ensures { (t : Tm) → WellTyped identity_system.symbols t → Bounded identity_system.rules t }
 {}
 
-/// They are so too by a proof whose node of interpretations covers the rule of i alone: that is all that the pair in
-/// which t calls itself uses. The law on proved systems makes of it that well-typed terms are bounded (Fuhs and Kop
-/// 2012; lists of rules are ours).
+/// Each well-typed term over the system `identity` is bounded, by usable rules: a node of interpretations covers the
+/// rule of i alone, which is all that the pair in which t calls itself uses. The law on proved systems makes of it that
+/// well-typed terms are bounded (Fuhs and Kop 2012; lists of rules are ours).
 pub fn terms_over_identity_are_bounded_by_usable_rules()
     ensures proved { Proves identity_symbols identity_system.rules identity_pairs ((0 ∷ 1 ∷ []) ∷ []) listed_nodes }
     ensures bounded { (t : Tm) → WellTyped identity_system.symbols t → Bounded identity_system.rules t }

@@ -1,4 +1,5 @@
-//! What the nodes of a termination proof are good for.
+//! Laws of the nodes of a termination proof: where the nodes prove the set of all pairs, every well-typed term is
+//! bounded.
 
 ghost use Rattle.std.specs.Prelude.{ℕ, ◌≡◌, ◌<◌, List, [], ◌∷◌, length, Contains};
 ghost use Rattle.wh_terms.specs.Tree.{Tm, tms_of};
@@ -23,9 +24,9 @@ ghost use Rattle.wh_proof.specs.Nodes.{Node};
 ghost use Rattle.wh_proof.specs.Proves.{Proves};
 ghost use Rattle.wh_pairs.specs.Sets.{InSet};
 
-/// A pair may follow another wherever it does: where the arguments of a value of the one's right side step, one at
-/// a time and however often, to those of a value of the other's left side, which has the same symbol (Kop 2012;
-/// Fuhs and Kop 2019, approximations of the dependency graph).
+/// Where a pair follows another one in a chain, the graph says that it may follow it. The pair follows where the
+/// arguments of a value of the one's right side step, one at a time and however often, to those of a value of the
+/// other's left side, which has the same symbol (Kop 2012; Fuhs and Kop 2019, approximations of the dependency graph).
 pub fn may_is_sound()
     ensures { (S : Symbols) (rules : List RewriteRule) (a b : PairData) (g h : ℕ → Body) (us vs : List Tm) → AreWellMade S rules
         → a.right_fun ≡ b.left_fun → Values g (tms_of a.right) (tms_of us) → Values h (tms_of b.left) (tms_of vs)

@@ -98,12 +98,13 @@ HasNoProof d ps tries (Spent Poly set list) = IsTriedOn d ps tries set list
 HasNoProof d ps tries (Spent Order set list) = AreOrdersTriedOn d ps tries set list
 HasNoProof d ps tries (Full visits) = ⊥
 
--- no loop was found: there is none of at most so many steps, and fewer terms are reached than may be kept (ours)
+-- no loop was found: there is none of at most the given number of steps, and fewer terms are reached than may be kept
+-- (ours)
 pub record HasNoLoops (d : SystemData) (o : Options) : Type 0 where
   pub none : HasNoLoop d o.depth
   pub all : ReachesFewer d.rules o.depth o.visited
 
--- or as many terms were reached as may be; each is a start itself, or holds no instance of its start (ours)
+-- as many terms were reached as may be kept; each is a start itself, or holds no instance of its start (ours)
 abbrev pub IsFull : SystemData → Options → List Arrival → Type 0
 IsFull d o list = AreVisited d o.depth o.visited list
 

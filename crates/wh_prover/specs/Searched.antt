@@ -37,8 +37,8 @@ pub record AreOrders (d : SystemData) (funs marks : List w.Filtering) (rules pai
   pub rules_within : All IsWithin rules
   pub pairs_within : All IsWithin pairs
 
--- so it is of a node of interpretations, whatever rules it lists, and of one of a path order; of any other nothing is
--- asked
+-- the node is one that the search looks for: of interpretations of the space, whatever rules it lists, or of a path
+-- order of the space; of any other node nothing is said
 abbrev pub IsSearched : SystemData → w.Node → Type 0
 IsSearched d (w.interpretations usable funs marks rules pairs drop) = AreSearched d funs marks rules pairs
 IsSearched d (w.order funs marks rules pairs drop) = AreOrders d funs marks rules pairs

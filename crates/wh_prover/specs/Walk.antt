@@ -1,4 +1,4 @@
--- What the walk over the sets of pairs keeps true.
+-- The walk of the search over sets of pairs: what holds before and after each node.
 use Rattle.std.specs.Prelude.{ℕ, ◌≡◌, ◌+◌, ◌*◌, ◌^◌, ◌<◌, ◌≤◌, List, [], ◌∷◌, ◌++◌, length, map, reverse, All}
 use Rattle.wh_system.specs.Systems.{SystemData}
 use Rattle.wh_system.specs.SystemView.{system_data}
@@ -26,12 +26,12 @@ use Rattle.wh_prover.specs.declared.answer.Cause.{Cause}
 use Rattle.wh_prover.specs.declared.answer.Cause.TheVariants.{NoRanks, Stuck, Spent, Full}
 use Rattle.wh_prover.specs.declared.answer.Finder.TheVariants.{Subterm, Poly, Order}
 
--- more nodes than a set can have: of so many pairs one less than three times as many, and one of no pair (ours)
+-- more nodes than a proof for a set of pairs can have: for n pairs 3 * n - 1, and 1 for the empty set (ours)
 abbrev pub weigh : List ℕ → ℕ
 weigh [] = 1
 weigh (n ∷ ns) = 3 * length ns + 2
 
--- the same of some sets together
+-- more nodes than proofs for some sets together can have
 abbrev pub weight : List (List ℕ) → ℕ
 weight [] = 0
 weight (set ∷ sets) = weigh set + weight sets
@@ -71,7 +71,7 @@ pub record Adds (d : SystemData) (ps : List PairData) (set : List ℕ) (sets aft
   pub arrives : All (Arrives d ps) goes.left
   pub lighter : weight goes.left < weigh set
 
--- so it is of the program's nodes and of its stack, whose last set is the next one
+-- a node joins the program's nodes; the last set of its stack is the next one
 abbrev pub AddsNode : System → List Pair → List ℕ → List (List ℕ) → List (List ℕ) → List Node → List Node → Type 0
 AddsNode system pairs set stack after nodes longer =
     Adds (system_data system) (pairs_data pairs) set (reverse stack) (reverse after) (map said_node nodes) (map said_node longer)

@@ -1,4 +1,4 @@
-//! What the search for a proof is asked and what it answers.
+//! The bounds of the search for a proof, and its answers.
 
 use wh_access::NoRanks;
 use wh_cert::Certificate;
@@ -39,11 +39,11 @@ pub enum Cause {
     Stuck(PairSet),
     /// A finder ended on a set without an answer.
     Spent {
-        /// Which one.
+        /// Which finder it is.
         finder: Finder,
         /// The set.
         set: PairSet,
-        /// The clauses that it made, as many as it may.
+        /// The clauses that the finder made, as many as it may.
         list: Clauses,
     },
     /// No projection, no interpretation and no path order lets a pair of some set go, and the search for loops kept as
@@ -51,7 +51,7 @@ pub enum Cause {
     Full(Visits),
 }
 
-/// What looks for a way to let pairs go.
+/// A finder: a search for a way to let pairs of a set go.
 #[derive(Clone, Copy)]
 pub enum Finder {
     /// The search for a projection to arguments.

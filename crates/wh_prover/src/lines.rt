@@ -1,4 +1,4 @@
-//! The lines of a node that a projection gives.
+//! From a projection that was found to the lines of its node.
 
 ghost use Rattle.std.specs.Prelude.{◌<◌, ◌≤◌, All, IfOk, length, map};
 ghost use Rattle.wh_types.specs.Limits.{greatest_number};

@@ -38,9 +38,9 @@ pub struct Setting<'a> {
     pub tries: u64,
 }
 
-/// Gives the set a node, and puts what this leaves on top of the stack, the first of it on top; or says why the search
-/// ends on the set. The graph comes first: a set without pairs, with several components, or with one pair that may not
-/// follow itself. Then come the finders.
+/// Gives the set a node, and puts the sets that this node leaves on top of the stack, the first of them on top; or says
+/// why the search ends on the set. The graph comes first: a set without pairs, with several components, or with one
+/// pair that may not follow itself. Then come the finders.
 ///
 /// `numbered` has the sides of all pairs by numbers, once there was a set for which they pay.
 pub fn settle<'a>(

@@ -1,11 +1,11 @@
-//! Lists of numbers.
+//! Lists of numbers as certificates have them.
 
 ghost use Rattle.std.specs.Prelude.{◌≡◌, IfOk};
 
 use std::alloc::{AllocError, Global};
 use wh_types::{Numbers, Ranks};
 
-/// The same numbers as a list of its own.
+/// A copy of the numbers as a list of its own.
 pub fn numbers_of(alloc: Global, list: &[u32]) -> Result<Numbers, AllocError>
     ensures { IfOk result (λ numbers. numbers ≡ list.now) }
 {

@@ -1,4 +1,5 @@
-//! The search for a short loop, for a proof, and then for any loop.
+//! The search: a short search for a loop first, then one for a proof, and then one for any loop. `prove` is the main
+//! function.
 
 ghost use Rattle.std.specs.Prelude.{◌≡◌, ◌≤◌, All, IfOk, MatchResult, length};
 ghost use Rattle.wh_types.specs.Limits.{greatest_number};
@@ -49,7 +50,7 @@ pub fn prove(
     }
 }
 
-// The same where the short search found no loop.
+// Searches for a proof, and then for any loop, where the short search found no loop.
 fn search(
     alloc: Global,
     system: &System,

@@ -1,4 +1,4 @@
-//! The walk over the sets of pairs, from the set of all pairs on.
+//! The walk of the search over sets of pairs, from the set of all pairs on. `walk` is the main function.
 
 ghost use Rattle.std.specs.Prelude.{◌≡◌, ◌≤◌, [], IfOk, MatchOption, length, map};
 ghost use Rattle.wh_types.specs.Limits.{most_pairs};
@@ -17,8 +17,8 @@ use wh_cert::Nodes;
 use wh_graph::Graph;
 use wh_pairs::PairSet;
 
-/// Puts the nodes of a proof for the set of all pairs into the list, each before what it leaves; or says on which set
-/// the walk ends, and why. The sets that are still to be settled are kept on a stack, the next on top.
+/// Puts the nodes of a proof for the set of all pairs into the list, each before its children; or says on which set the
+/// walk ends, and why. The sets that are still to be settled are kept on a stack, the next on top.
 pub fn walk<'a>(
     alloc: Global,
     setting: &Setting<'a>,

@@ -1,4 +1,4 @@
--- What the search for a proof and for a refutation come to.
+-- The outcomes of a search for a proof together with a refutation of projections.
 use Rattle.std.specs.Prelude.{ℕ, ◌≡◌, List}
 use Rattle.wh_terms.specs.Rules.{RewriteRule}
 use Rattle.wh_system.specs.Systems.{SystemData}
@@ -24,7 +24,7 @@ pub record HasRefutation (rules : List RewriteRule) (pairs : List PairData) (set
   pub list : List Entry
   pub refutes : IsRefutation variables clauses list
 
--- as many clauses as may be were learnt from that formula (ours)
+-- as many clauses as allowed were learnt from that formula (ours)
 abbrev pub IsUndecided : List RewriteRule → List PairData → ℕ → List ℕ → Type 0
 IsUndecided rules pairs tries set = (learnt : List (List Literal)) × IsSpent rules pairs set tries learnt
 

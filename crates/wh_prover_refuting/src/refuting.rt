@@ -25,15 +25,15 @@ use wh_types::Or;
 // than 32 bits number, so they count as want of memory.
 const MOST_CLAUSES: usize = 2_146_000_000;
 
-/// What the search for a proof and for a refutation come to.
+/// The outcome of a search for a proof and of a refutation.
 #[derive(Drop)]
 pub enum Verdict {
     /// The search for a proof is stuck on this set, and a list that the checker accepted shows that no projection lets
     /// a pair of it go.
     Refuted(PairSet),
-    /// It is stuck on this set, but as many clauses as may be were learnt before there was such a list.
+    /// The search is stuck on this set, but as many clauses as may be were learnt before there was such a list.
     Unrefuted(PairSet),
-    /// It is not stuck; this is its answer.
+    /// The search is not stuck; this is its answer.
     Unstuck(Answer),
 }
 
@@ -57,7 +57,7 @@ pub fn refute(
     }
 }
 
-// What a set of which no projection lets a pair go comes to.
+// The verdict on a set of which no projection lets a pair go.
 fn of_set(
     alloc: Global,
     system: &System,

@@ -120,7 +120,7 @@ open_under parts k n m p e h = ap (λ (c : Bool). if c then r.inside parts p els
 pub open_over : (parts : RParts) (k n m : ℕ) (p : r.Place) → k ≡ m → n ≤ m → r.opened parts k n p ≡ r.too_many
 open_over parts k n m p e h = ap (λ (c : Bool). if c then r.inside parts p else r.too_many) (le-ltb k n (omega (arith, e, h)))
 
--- the same, by the test of one level more
+-- whether a level opens, by the test of its depth
 pub open_tested : (parts : RParts) (k n m : ℕ) (b : Bool) (p : r.Place) → k ≡ m → nat_lt m n ≡ b → r.opened parts k n p ≡ (if b then r.inside parts p else r.too_many)
 open_tested parts k n m b p e h = ap (λ (c : Bool). if c then r.inside parts p else r.too_many) (ap (λ (x : ℕ). nat_lt x n) e ∙ h)
 
@@ -149,7 +149,7 @@ pub step_along : {E : Type 0} (result : Result Step E) (f g : RParts → r.State
 step_along (Ok step) f g e h = λ parts. h parts ∙ e parts
 step_along (Err x) f g e h = h
 
--- the same of one state
+-- where two states are equal, a step that leads to the one leads to the other
 pub state_along : {E : Type 0} (result : Result Step E) (parts : RParts) (f g : r.State) → f ≡ g → IfOk result (λ step. held.state parts step ≡ f) → IfOk result (λ step. held.state parts step ≡ g)
 state_along (Ok step) parts f g e h = h ∙ e
 state_along (Err x) parts f g e h = h

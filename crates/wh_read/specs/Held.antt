@@ -1,4 +1,4 @@
--- What the reader's values stand for, without pointers.
+-- The state of the reader, without pointers: what its places, frames and open rules stand for.
 use Rattle.std.specs.Prelude.{ℕ, List, [], ◌∷◌, map, Option, option_map, Box}
 use Rattle.std.specs.Global.{Global}
 use Rattle.wh_text.specs.RawTree.{RTys, RTm}

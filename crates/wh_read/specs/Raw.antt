@@ -1,4 +1,4 @@
--- What the written parts say: raw trees and parts.
+-- From concrete syntax trees to the raw trees and parts that they say.
 use Rattle.std.specs.Prelude.{ℕ, List, [], ◌∷◌, map}
 use Rattle.wh_text.specs.RawTree.{RTy, raw_type, RTys, no_types as no_rtys, more_types as more_rtys, RTm, named, numbered, free_variable, meta, lam, spine, RTms, none, more}
 use Rattle.wh_system_parts.specs.Parts.{RName, RFun, RMeta, RRule, RParts}

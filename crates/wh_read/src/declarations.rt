@@ -1,4 +1,4 @@
-//! Reading a declaration up to its types and sides.
+//! Reading declarations: the places of a sort, a symbol and a rule up to where their types and sides begin.
 
 ghost use Rattle.std.specs.Prelude.{◌≡◌, IfOk};
 ghost use Rattle.wh_system_parts.specs.Parts.{RParts};

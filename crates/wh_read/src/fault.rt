@@ -1,4 +1,4 @@
-//! Why tokens are no system text.
+//! The faults of the grammar: why tokens are no system text, and at which token.
 
 use wh_types::Or;
 

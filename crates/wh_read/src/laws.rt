@@ -1,4 +1,4 @@
-//! A text says one system, or is refused for one reason at one place.
+//! Laws of reading: a text says one system, or is refused for one reason at one offset.
 
 ghost use Rattle.std.specs.Prelude.{◌≡◌, ℕ, List};
 ghost use Rattle.wh_system.specs.Systems.{SystemData};

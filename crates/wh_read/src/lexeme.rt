@@ -1,4 +1,4 @@
-//! The letters of the grammar: tokens, their bytes looked up.
+//! The letters of the grammar: tokens whose bytes are looked up, so that the parser sees keywords, signs and names.
 
 ghost use Rattle.std.specs.Prelude.{◌≡◌, ◌≤◌, length, option_map, IfOk};
 ghost use Rattle.wh_text.specs.Erase.{kind_of, part};

@@ -1,4 +1,4 @@
-//! Reading and printing of system texts.
+//! Reading system texts: `read_system` turns bytes into a system, or says why they are none.
 #![tactic(auto)]
 
 mod declarations;

@@ -1,4 +1,5 @@
-//! Reading a system text: token by token, each from the place that those before it led to.
+//! Reading a system text token by token. `parse` is the main function: it keeps one place, which says what it has read
+//! so far, and each token leads to the next place or is the fault.
 
 ghost use Rattle.std.specs.Prelude.{◌≡◌, ◌≤◌, ◌+◌, ◌↔◌, length, Some, None, IfOk, IsTrue};
 ghost use Rattle.wh_types.specs.Limits.{most_bytes};
@@ -28,7 +29,7 @@ use wh_system_parts::{Parts, RawFuns, RawNames, RawRules};
 use wh_text::Token;
 use wh_types::Or;
 
-/// What one more letter, which stands at `at`, does at the place.
+/// The step that the next letter, which stands at `at`, makes from the place.
 fn move_on(
     alloc: Global,
     parts: &mut Parts,
@@ -112,7 +113,7 @@ fn read_token(
     }
 }
 
-/// Drops a place, in one function, since its many kinds make that long.
+/// Drops a place. It is a function of its own since a place has many variants, and the code that drops them is long.
 fn let_go(_place: Place) {}
 
 /// Whether a text may end at the place.
@@ -122,7 +123,7 @@ fn may_end(place: &Place) -> bool
     matches!(place, Place::Between)
 }
 
-/// The same of a place that is then let go.
+/// Whether a text may end at the place, which is dropped then.
 fn ended(place: Place) -> bool
     ensures { IsTrue result ↔ (held.place place ≡ r.between) }
 {

@@ -1,4 +1,5 @@
-//! The places of the reader: what it holds behind some tokens of a system text.
+//! The places of the reader: what it keeps of the tokens of a system text that it has read. `parsing` goes from place
+//! to place.
 
 use wh_system_parts::{RawMetas, RawName};
 use wh_text::{RawBinder, RawTerm, RawTerms, RawType, RawTypes};
@@ -6,7 +7,7 @@ use wh_text::{RawBinder, RawTerm, RawTerms, RawType, RawTypes};
 /// What an open term stands in.
 #[derive(Drop)]
 pub enum Frame {
-    /// The body of an abstraction: its binder, the type of that, and the place of the abstraction.
+    /// The body of an abstraction: its binder, the type of the binder's variable, and the offset of the abstraction.
     Body(RawBinder, Box<RawType>, u32),
     /// A parenthesis, with the spine so far before it.
     Paren(Option<RawTerm>),
@@ -17,11 +18,11 @@ pub enum Frame {
 /// A rule whose sides are read.
 #[derive(Drop)]
 pub struct OpenRule {
-    /// Its meta-variables.
+    /// The meta-variables of the rule.
     pub metas: RawMetas,
-    /// The place of its keyword.
+    /// The offset of the keyword `rule`.
     pub at: u32,
-    /// The left side, where that is read.
+    /// The left side, once it is read.
     pub left: Option<RawTerm>,
     /// The open terms, the innermost last.
     pub frames: Vec<Frame>,
@@ -32,9 +33,9 @@ pub struct OpenRule {
 /// A rule whose meta-variables are read.
 #[derive(Drop)]
 pub struct OpenMetas {
-    /// Those so far.
+    /// The meta-variables that are read so far.
     pub metas: RawMetas,
-    /// The place of the rule's keyword.
+    /// The offset of the keyword `rule`.
     pub at: u32,
 }
 
@@ -50,22 +51,22 @@ pub struct OpenMeta {
 /// What a type is for.
 #[derive(Drop)]
 pub enum Purpose {
-    /// It is the type of this symbol.
+    /// The type of this symbol.
     OfFun(RawName),
-    /// It stands in the brackets of a meta-variable, behind these types.
+    /// A type in the brackets of a meta-variable, behind these types.
     InBrackets(OpenMeta, RawTypes),
-    /// It stands behind the brackets of a meta-variable, in which these types are.
+    /// The type behind the brackets of a meta-variable, in which these types are.
     OfMeta(OpenMeta, RawTypes),
-    /// It is the type of a binder, of an abstraction at this place.
+    /// The type of a binder, whose abstraction stands at this offset.
     OfBinder(Box<OpenRule>, RawBinder, u32),
-    /// It is the type of a free variable of this number and place.
+    /// The type of a free variable of this number, which stands at this offset.
     OfVariable(Box<OpenRule>, u32, u32),
 }
 
 /// A type that is read.
 #[derive(Drop)]
 pub struct OpenType {
-    /// Its arguments so far.
+    /// The arguments of the type so far.
     pub args: RawTypes,
     /// The arguments so far of the types around it, one for each open parenthesis, the innermost last.
     pub outer: Vec<RawTypes>,
@@ -84,7 +85,7 @@ pub enum Place {
     BehindFun,
     /// Behind the name of a symbol.
     FunNamed(RawName),
-    /// Behind `rule`, which stands there.
+    /// Behind `rule`, whose offset this is.
     BehindRule(u32),
     /// Where a meta-variable begins.
     WantMeta(OpenMetas),
@@ -94,9 +95,9 @@ pub enum Place {
     MetaColon(OpenMeta),
     /// Where a sort's name or a parenthesis of a type begins.
     WantAtype(Box<Purpose>, OpenType),
-    /// Behind such a part of a type.
+    /// Behind a sort's name or a closed parenthesis of a type.
     BehindAtype(Box<Purpose>, OpenType, Box<RawType>),
-    /// Behind `\`, which stands there.
+    /// Behind `\`, whose offset this is.
     BehindLambda(Box<OpenRule>, u32),
     /// Behind a binder.
     BinderNamed(Box<OpenRule>, RawBinder, u32),
@@ -106,14 +107,14 @@ pub enum Place {
     WantAtom(Box<OpenRule>),
     /// Behind a name, before which a spine stands.
     BehindName(Box<OpenRule>, RawName),
-    /// Behind `%` with a number, which stands there.
+    /// Behind `%` with this number, which stands at this offset.
     BehindPercent(Box<OpenRule>, u32, u32),
 }
 
-/// What one more token does.
+/// What the next token does.
 #[derive(Drop)]
 pub enum Step {
-    /// The reader goes on there.
+    /// The reader goes on at this place.
     To(Place),
     /// No system text has the token there.
     Failed,

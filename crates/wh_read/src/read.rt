@@ -1,4 +1,4 @@
-//! Reading a system from its text: its bytes are cut into tokens, these are parsed, and what they say is tested.
+//! Reading a system from its text. `read_system` cuts the bytes into tokens, parses these, and tests what they say.
 
 ghost use Rattle.std.specs.Prelude.{◌≡◌, ◌≤◌, length, IfOk};
 ghost use Rattle.wh_types.specs.Limits.{most_bytes};
@@ -16,14 +16,14 @@ use wh_system_parts::SystemFault;
 use wh_text::{TextFault, tokens};
 use wh_types::Or;
 
-/// A reason at a place.
+/// The refusal of a text for a reason at an offset.
 fn refused(reason: Reason, at: u32) -> Refused
     ensures { result ≡ record { reason = reason; at = at } }
 {
     Refused { reason, at }
 }
 
-/// What a fault of tokens is.
+/// The refusal of a text for a fault of its tokens.
 fn by_text(fault: TextFault) -> Refused
     ensures { result ≡ text_refused fault }
 {
@@ -34,7 +34,7 @@ fn by_text(fault: TextFault) -> Refused
     }
 }
 
-/// What a fault of the grammar is.
+/// The refusal of a text for a fault of the grammar.
 fn by_syntax(fault: SyntaxFault) -> Refused
     ensures { result ≡ syntax_refused fault }
 {
@@ -44,7 +44,7 @@ fn by_syntax(fault: SyntaxFault) -> Refused
     }
 }
 
-/// What a fault of a system is.
+/// The refusal of a text whose parts are no system.
 fn by_system(fault: SystemFault) -> Refused
     ensures { result ≡ system_refused fault }
 {

@@ -1,4 +1,4 @@
-//! Why a text is refused.
+//! The reasons for which a text is refused. The program prints each as a word and an offset.
 
 /// Why a text is refused.
 #[derive(Clone, Copy)]
@@ -37,6 +37,6 @@ pub enum Reason {
 pub struct Refused {
     /// The reason.
     pub reason: Reason,
-    /// The byte where it stands.
+    /// The offset of the byte where the trouble stands.
     pub at: u32,
 }

@@ -1,4 +1,4 @@
-//! Reading terms: the atoms of a spine are joined as they come, and a frame is kept for each open level.
+//! Reading terms. The atoms of a spine are joined as they come, and a frame is kept for each open level.
 
 ghost use Rattle.std.specs.Prelude.{◌≡◌, None, Some, option_map, IfOk};
 ghost use Rattle.wh_text.specs.Erase.{rty, rtm, rtms, rbinder};
@@ -134,7 +134,7 @@ fn open_bracket(alloc: Global, mut rule: Box<OpenRule>, name: RawName) -> Result
     open_frame(rule, Frame::Bracket(name, args, before))
 }
 
-/// An abstraction begins, where no atom stands before it: its level opens.
+/// An abstraction begins, where no atom stands before it, and its level opens.
 fn lambda_begins(rule: Box<OpenRule>, at: u32) -> Step
     ensures { (parts : RParts) → held.state parts result ≡ r.lambda_begins parts (held.rule rule) (held.spine_of rule) at }
 {
@@ -157,7 +157,7 @@ fn left_ended(mut rule: Box<OpenRule>, term: RawTerm) -> Box<OpenRule>
     rule
 }
 
-/// The right side has ended, if it is the one that is read: with it the rule ends.
+/// The right side has ended, where it is the side that is read: the rule ends with it.
 fn rule_ended(parts: &mut Parts, rule: Box<OpenRule>, right: RawTerm) -> Result<Step, AllocError>
     ensures { IfOk result (λ step. held.state (rparts parts.new) step
         ≡ r.side_ended (rparts parts.old) (held.rule rule) (option_map rtm rule.value.left) (rtm right) semicolon) }
@@ -180,7 +180,7 @@ fn rule_ended(parts: &mut Parts, rule: Box<OpenRule>, right: RawTerm) -> Result<
     Ok(Step::To(Place::Between))
 }
 
-/// A side has ended: the left one before the arrow; the right one, and with it the rule, at its end.
+/// A side has ended: the left one before the arrow, or the right one at the end of its rule.
 fn side_ended(
     parts: &mut Parts,
     rule: Box<OpenRule>,
@@ -249,7 +249,7 @@ fn argument_ended(
     }
 }
 
-/// A term has ended, and with it the abstractions whose bodies end there.
+/// A term has ended. The abstractions whose bodies end there end with it.
 fn term_ended(
     alloc: Global,
     parts: &mut Parts,
@@ -313,7 +313,7 @@ pub fn at_atom(
     }
 }
 
-/// A letter behind a name: the bracket of a meta-application, or what comes behind a plain name.
+/// A letter behind a name: the bracket of a meta-application, or whatever may follow a plain name.
 pub fn behind_name(
     alloc: Global,
     parts: &mut Parts,
@@ -353,7 +353,7 @@ pub fn variable_colon(
     }
 }
 
-/// A binder.
+/// The letter where a binder begins.
 pub fn at_binder(rule: Box<OpenRule>, lambda_at: u32, letter: Lexeme) -> Step
     ensures { (parts : RParts) → held.state parts result ≡ r.at_binder parts (held.rule rule) lambda_at (held.letter letter) }
 {

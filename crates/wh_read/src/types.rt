@@ -17,7 +17,7 @@ use std::alloc::{AllocError, Global};
 use wh_system_parts::{Parts, RawFun, RawMeta, RawName};
 use wh_text::{Name, RawTerm, RawType, RawTypes};
 
-/// The parentheses of a type nest that deep.
+/// How deep the parentheses of a type may nest.
 const DEEPEST_TYPE: usize = 16;
 
 /// A type of which nothing was read.
@@ -30,7 +30,7 @@ pub fn new_type(alloc: Global) -> Result<OpenType, AllocError>
     })
 }
 
-/// A type begins, which is for that.
+/// A type begins, which is read for this purpose.
 pub fn want_type(alloc: Global, purpose: Purpose) -> Result<Step, AllocError>
     ensures { IfOk result (λ step. (parts : RParts) → held.state parts step
         ≡ r.inside parts (r.want_atype (held.purpose_of purpose) r.new_type)) }

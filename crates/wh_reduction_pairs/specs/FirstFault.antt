@@ -16,20 +16,20 @@ pub record Blaming (Line Fault : Type 0) : Type 1 where
 abbrev pub AreBadLines : {Line : Type 0} → TaskData → Evidence Line → Type 0
 AreBadLines T E = (length E.of_rules ≢ length T.covered) ⊎ (length E.of_pairs ≢ length T.set)
 
--- what is asked before the first line is looked at: the numbers of lines, and the list of dropped pairs
+-- what is tested before the first line is looked at: the numbers of lines, and the list of dropped pairs
 pub record AreCounted {Line : Type 0} (T : TaskData) (E : Evidence Line) : Type 0 where
   pub rule_count : length E.of_rules ≡ length T.covered
   pub pair_count : length E.of_pairs ≡ length T.set
   pub good_drop : IsBadDrop T.set E.drop → ⊥
 
 module _ {Line Fault : Type 0} (blames : Blaming Line Fault) (T : TaskData) where
-  -- this is wrong with the line at this place, which is that of the rule with this number
+  -- f is wrong with the line at the place i, which is that of the rule number n
   abbrev pub IsRuleFault : List Line → ℕ → ℕ → Fault → Type 0
   IsRuleFault lines i n f =
       (r : RewriteRule) × (l : Line) × (slice_get T.covered i ≡ Some n) × (slice_get T.rules n ≡ Some r) × (slice_get lines i ≡ Some l)
       × blames.rule r l f
 
-  -- and this with the line at this place, which is that of the pair with this number
+  -- f is wrong with the line at the place i, which is that of the pair number n
   abbrev pub IsPairFault : List Line → List ℕ → ℕ → ℕ → Fault → Type 0
   IsPairFault lines drop i n f =
       (p : PairData) × (l : Line) × (strict : Bool) × (slice_get T.set i ≡ Some n) × (slice_get T.pairs n ≡ Some p)
@@ -43,7 +43,7 @@ module _ {Line Fault : Type 0} (shows : Showing Line) (blames : Blaming Line Fau
   IsFirstRuleFault lines n f =
       (i : ℕ) × ((k : ℕ) → k < i → IsRightRule shows T lines k) × IsRuleFault blames T lines i n f
 
-  -- and so of the lines of the pairs
+  -- of the lines of the pairs, that of the pair number n is the first that is not right, and f is wrong with it
   abbrev pub IsFirstPairFault : List Line → List ℕ → ℕ → Fault → Type 0
   IsFirstPairFault lines drop n f =
       (i : ℕ) × ((k : ℕ) → k < i → IsRightPair shows T lines drop k) × IsPairFault blames T lines drop i n f

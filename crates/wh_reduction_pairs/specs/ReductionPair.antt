@@ -24,7 +24,7 @@ module _ {Line : Type 0} (shows : Showing Line) (T : TaskData) where
       → slice_get lines i ≡ Some l
       → shows.rule r l
 
-  -- and so does this one: that its pair does not grow, and shrinks where it is dropped
+  -- the line at this place shows what it is for: that its pair does not grow, and that it shrinks where it is dropped
   abbrev pub IsRightPair : List Line → List ℕ → ℕ → Type 0
   IsRightPair lines drop i = (n : ℕ) (p : PairData) (l : Line) (strict : Bool) → slice_get T.set i ≡ Some n
       → slice_get T.pairs n ≡ Some p

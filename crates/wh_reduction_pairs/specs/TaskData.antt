@@ -12,7 +12,7 @@ pub record TaskData : Type 0 where
   pub set : List ℕ
   pub covered : List ℕ
 
--- the numbers from n on, so many of them
+-- k numbers, from n on
 abbrev pub numbers_from : ℕ → ℕ → List ℕ
 numbers_from n zero = []
 numbers_from n (suc k) = n ∷ numbers_from (suc n) k

@@ -1,4 +1,4 @@
--- What a `Task` stands for.
+-- The data that a `Task` of the program stands for.
 use Rattle.std.specs.Prelude.{map}
 use Rattle.wh_system.specs.SystemView.{system_data}
 use Rattle.wh_pairs.specs.PairData.{pair_data}

@@ -1,4 +1,4 @@
-//! A set of dependency pairs, and what is to be shown of it.
+//! Tasks: a set of dependency pairs, and the rules and pairs that must not grow so that some pairs can be dropped.
 
 ghost use Rattle.std.specs.Prelude.{◌≡◌, IfOk, length};
 ghost use Rattle.wh_system.specs.SystemView.{system_data};
@@ -14,7 +14,7 @@ use wh_system::System;
 pub struct Task<'a> {
     /// The system.
     pub system: &'a System,
-    /// Its dependency pairs.
+    /// The dependency pairs of the system.
     pub pairs: &'a [Pair],
     /// The numbers of the pairs in the set, increasing.
     pub set: &'a [u32],

@@ -11,7 +11,7 @@ use Rattle.wh_refute.specs.declared.fault.RefuteFault.{RefuteFault}
 abbrev pub IsSatisfied : (ℕ → Bool) → List Literal → Type 0
 IsSatisfied v c = (l : Literal) × (member l c ≡ true) × (v l.variable ≡ l.positive)
 
--- so it is of each clause
+-- each clause has a literal with the value that makes it true
 abbrev pub IsModel : (ℕ → Bool) → List (List Literal) → Type 0
 IsModel v clauses = (k : ℕ) → k < length clauses → IsSatisfied v (get_or clauses k [])
 

@@ -1,4 +1,4 @@
-//! The checker.
+//! The checker of lists of clauses with hints. `check_refutation` is the main function.
 
 ghost use Rattle.std.specs.Prelude.{◌≡◌, ◌+◌, ◌<◌, ◌≤◌, ◌^◌, ◌↔◌, [], ℕ, Contains, IfOk, IsTrue, List, MatchOption, MatchResult, Some, None, get_or, length, map, slice_get, take};
 ghost use Rattle.wh_types.specs.Outcome.{IfBecause};

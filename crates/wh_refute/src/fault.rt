@@ -1,4 +1,4 @@
-//! What the checker answers.
+//! The answers of the checker of lists of clauses.
 
 /// The list shows that the formula has no model.
 #[derive(Clone, Copy)]
@@ -35,10 +35,10 @@ pub enum RefuteFault {
 /// What is wrong with one entry.
 #[derive(Clone, Copy)]
 pub enum EntryFault {
-    /// A literal's variable is none of the formula's.
+    /// A literal has a variable that the formula does not have.
     Literal,
-    /// The hint with this number.
+    /// The hint with this number is wrong.
     Hint(u32),
-    /// No hint's clause was false.
+    /// No hint had a clause that was false.
     Open,
 }

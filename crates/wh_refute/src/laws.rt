@@ -1,4 +1,4 @@
-//! The laws of lists that refute a formula.
+//! Laws of lists that refute a formula: the formula has no model, and the list has no fault.
 
 ghost use Rattle.wh_refute.specs.Laws.{RefutationsHaveNoFault, RefutationsRefute};
 
@@ -7,7 +7,7 @@ pub fn refutations_refute()
     ensures { RefutationsRefute }
 {}
 
-/// Such a list has no fault.
+/// A list that refutes a formula has no fault.
 pub fn refutations_have_no_fault()
     ensures { RefutationsHaveNoFault }
 {}

@@ -1,4 +1,4 @@
-//! What a clause gives where some literals are true.
+//! What a clause gives where some literals are true: that is a step of the checker.
 
 ghost use Rattle.std.specs.Prelude.{◌≡◌, ◌<◌, ℕ, List, not};
 ghost use Rattle.wh_sat_trail.specs.Assignment.{AllBelow, negated};
@@ -8,17 +8,17 @@ ghost use Rattle.wh_refute.specs.Told.{IsLook, Tells};
 use crate::truth::Truth;
 use wh_sat_trail::Literal;
 
-/// What a clause gives.
+/// The result of a look at a clause.
 pub enum Look {
     /// All its literals are false.
     False,
-    /// All but this one, which is not true yet.
+    /// All literals but this one are false, and this one is not true yet.
     Leaves(Literal),
     /// Two are not false, or one alone, which is true already.
     Stuck,
 }
 
-/// The negation.
+/// The negation of the literal.
 pub fn negation(literal: Literal) -> Literal
     ensures { result ≡ negated literal }
 {
@@ -28,7 +28,7 @@ pub fn negation(literal: Literal) -> Literal
     }
 }
 
-/// What the clause gives.
+/// Looks at the clause.
 pub fn look_at(truth: &Truth, clause: &[Literal], variables: u32) -> Look
     requires below { AllBelow variables clause.now }
     requires tells { (t : List Literal) × Tells variables truth.now t }

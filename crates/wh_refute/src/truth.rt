@@ -1,4 +1,4 @@
-//! Which literals are true.
+//! The literals that are taken for true while one entry is checked.
 
 ghost use Rattle.std.specs.Prelude.{◌≡◌, ◌++◌, ◌+◌, ◌<◌, ◌^◌, [], ◌∷◌, ℕ, IfOk, List, length};
 ghost use Rattle.wh_sat_trail.specs.Member.{member};
@@ -18,7 +18,7 @@ pub struct Truth {
 }
 
 impl Truth {
-    /// Nothing is true of so many variables.
+    /// No literal over `variables` variables is true.
     pub fn new(alloc: Global, variables: u32) -> Result<Truth, AllocError>
         ensures { IfOk result (λ truth. Tells variables truth [] × (truth.round ≡ 1)) }
     {

@@ -1,4 +1,4 @@
--- What a search ends with.
+-- The answers of a search that can go on: a model, that there is none, or that the budget is spent.
 use Rattle.std.specs.Prelude.{◌≡◌, ℕ, ◌<◌, Bool, false, [], length, get_or}
 use Rattle.wh_sat.specs.declared.learner.Learner.{Learner}
 use Rattle.wh_sat.specs.declared.learner.Next.{Next}

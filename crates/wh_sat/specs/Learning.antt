@@ -28,8 +28,8 @@ pub record Refutes (clauses : List (List Literal)) (start : List Literal) : Type
 abbrev pub Includes : List Literal → List Literal → Type 0
 Includes c e = (l : Literal) → Has e l → Has c l
 
--- a clause that can be learnt from earlier ones over n variables: propagation refutes its negation, and that of no part
--- of it; no earlier clause is within it
+-- a clause that can be learnt from earlier ones over n variables: propagation refutes its negation, and no longer does
+-- once a literal is left out; no earlier clause is within it
 pub record IsLearnt (n : ℕ) (clauses : List (List Literal)) (c : List Literal) : Type 0 where
   pub below : AllBelow n c
   pub plain : (l : Literal) → Has c l → Has c (negated l) → ⊥

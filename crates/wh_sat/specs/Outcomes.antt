@@ -1,4 +1,4 @@
--- What the solver ends with.
+-- The answers of the solver about a formula.
 use Rattle.std.specs.Prelude.{◌≡◌, ℕ, ◌<◌, ◌≤◌, ◌^◌, Bool, false, List, length, get_or}
 use Rattle.wh_sat_trail.specs.declared.literal.Literal.{Literal}
 use Rattle.wh_sat.specs.declared.solving.Outcome.{Outcome}

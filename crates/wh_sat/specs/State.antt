@@ -1,4 +1,4 @@
--- What others see of a learner.
+-- The state of a learner as its callers see it: the clauses that were given and those that were learnt.
 use Rattle.std.specs.Prelude.{◌≡◌, ℕ, ◌+◌, ◌<◌, ◌≤◌, true, false, List, [], length, get_or, take}
 use Rattle.wh_sat_trail.specs.declared.literal.Literal.{Literal}
 use Rattle.wh_sat_trail.specs.State.{assigned, formula_of, marks_of}

@@ -1,4 +1,4 @@
-//! Copies of clauses.
+//! Copies of clauses and of lists of clauses.
 
 ghost use Rattle.std.specs.Prelude.{◌≡◌, IfOk, drop};
 

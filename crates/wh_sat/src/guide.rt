@@ -24,7 +24,8 @@ pub struct Guide {
     touched: Vec<u32>,
 }
 
-/// Of a variable: its last value, where that stood in the trail, and whether it is in the conflict that is looked at.
+/// The note on a variable: its last value, where that stood in the trail, and whether it is in the conflict that is
+/// looked at.
 #[derive(Clone, Copy)]
 struct Note {
     positive: bool,

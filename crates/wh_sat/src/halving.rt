@@ -1,4 +1,4 @@
-//! What propagation needs of decisions that clash, found by halving.
+//! The decisions that a conflict needs: those that propagation can do without are left out, by halving.
 
 ghost use Rattle.std.specs.Prelude.{◌≡◌, ◌++◌, OnOk, IfOk, get_or, length, take};
 ghost use Rattle.wh_sat.specs.Learning.{Clash, Reduced, Supposes};
@@ -38,7 +38,7 @@ fn suppose(trail: &mut Trail, literals: &[Literal]) -> Result<bool, AllocError>
     Ok(false)
 }
 
-/// What is needed of the rest beside the literals that are given. The trail stays.
+/// The literals of the rest that are needed beside those that are given. The trail stays.
 #[cycle(halve)]
 fn needed_beside(
     alloc: Global,
@@ -65,7 +65,7 @@ fn needed_beside(
     Ok(kept)
 }
 
-/// Of literals that clash beside what is assigned, those that are needed for it. The trail stays.
+/// The literals that are needed for a clash, of literals that clash beside what is assigned. The trail stays.
 #[cycle(halve)]
 pub fn halve(
     alloc: Global,

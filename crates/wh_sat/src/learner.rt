@@ -1,4 +1,4 @@
-//! A solver that can go on: clauses are given to it between its answers.
+//! A solver that can go on: between its answers further clauses can be given to it.
 
 mod conflicts;
 mod models;
@@ -8,7 +8,7 @@ use crate::guide::Guide;
 use std::alloc::Global;
 use wh_sat_trail::Trail;
 
-/// Clauses, of which some were given and the others learnt, and how many more may join them.
+/// The clauses that were given and those that were learnt, and how many more may be learnt.
 #[derive(Drop)]
 pub struct Learner {
     alloc: Global,
@@ -18,12 +18,12 @@ pub struct Learner {
     guide: Guide,
 }
 
-/// What a search ends with.
+/// The answer of a search.
 pub enum Next {
     /// A truth value for each variable, under which all clauses are true.
     Model(Vec<bool>),
     /// No values make all clauses true.
     Exhausted,
-    /// There are as many clauses as there may be.
+    /// As many clauses were learnt as may be.
     Spent,
 }

@@ -1,4 +1,4 @@
-//! The solver: a formula, and how many clauses may be learnt.
+//! Solving a formula, with a bound on the clauses that may be learnt. `solve` is the main function.
 
 ghost use Rattle.std.specs.Prelude.{◌≡◌, IfOk, length};
 ghost use Rattle.wh_sat.specs.Outcomes.{IsOutcome};
@@ -9,21 +9,21 @@ use crate::learner::{Learner, Next};
 use std::alloc::{AllocError, Global};
 use wh_sat_trail::{Clauses, Formula};
 
-/// What a formula comes to.
+/// The outcome for a formula.
 pub enum Outcome {
     /// A truth value for each variable, under which all clauses are true.
     Sat(Vec<bool>),
     /// No values make all clauses true.
     Unsat,
-    /// The clauses that were learnt, as many as may be.
+    /// The clauses that were learnt, as many as may be. Whether there is a model is open.
     Spent(Clauses),
 }
 
-/// What a finder ends with.
+/// The answer of a finder.
 pub enum Search<T> {
-    /// What it looked for.
+    /// The thing that the finder looked for.
     Found(T),
-    /// There is none.
+    /// There is no such thing.
     Nothing,
     /// The clauses that it learnt or made, as many as may be.
     Spent(Clauses),
@@ -46,7 +46,7 @@ pub fn solve(alloc: Global, formula: &Formula, budget: u64) -> Result<Outcome, A
     )
 }
 
-/// The same of a formula that is not needed any more.
+/// Solves a formula as `solve` does, and takes it, where the caller needs it no more.
 pub fn solve_owned(alloc: Global, formula: Formula, budget: u64) -> Result<Outcome, AllocError>
     requires { Within formula.variables formula.clauses }
     ensures { IfOk result (IsOutcome formula.variables formula.clauses budget) }

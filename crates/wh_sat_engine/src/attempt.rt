@@ -1,4 +1,4 @@
-//! What the engine finds of a formula.
+//! The answers of the engine, and a call of it.
 
 ghost use Rattle.wh_sat_trail.specs.Propagation.{Within};
 
@@ -7,14 +7,14 @@ use std::alloc::{AllocError, Global};
 use wh_sat::copy_clauses;
 use wh_sat_trail::{Formula, Refutation};
 
-/// What a search comes to. Nothing is claimed of the values or of the list.
+/// The outcome of a search. Nothing is claimed of the values or of the list: callers check them.
 #[derive(Drop)]
 pub enum Attempt {
     /// Values that the search ended with.
     Values(Vec<bool>),
     /// The clauses that were learnt, with hints, up to the empty one.
     List(Refutation),
-    /// Nothing: as many clauses were learnt as may be.
+    /// As many clauses were learnt as may be, with no result.
     Nothing,
 }
 

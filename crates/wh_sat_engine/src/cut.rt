@@ -1,4 +1,4 @@
-//! What is learnt from a conflict: a clause that is false is resolved with the clauses that forced its literals, latest
+//! What is learnt from a conflict. A clause that is false is resolved with the clauses that forced its literals, latest
 //! first, until one literal of the last level is left (the first unique implication point of GRASP and MiniSat).
 //! Literals that bring nothing new are resolved away, too, and so are those that are false before the first decision:
 //! where nothing is decided, the empty clause is left.
@@ -11,8 +11,9 @@ use crate::notes::Notes;
 use std::alloc::{AllocError, Global};
 use wh_sat_trail::{Clause, Literal, Trail};
 
-/// A clause that is false, on the way back through the trail: for each variable whether it stands in the clause, and
-/// how many of these have their values since the last decision. And the numbers of the clauses that were resolved.
+/// The state of an analysis: a clause that is false, on the way back through the trail. For each variable it says
+/// whether it stands in the clause; it counts those that have their values since the last decision, and lists the
+/// clauses that were resolved.
 #[derive(Drop)]
 pub struct Cut {
     marks: Vec<bool>,
@@ -30,7 +31,7 @@ impl Cut {
         })
     }
 
-    /// The numbers of the clauses that the latest clause was resolved from, in the order in which that was done.
+    /// The numbers of the clauses that the latest clause was resolved from, in the order in which they were resolved.
     pub fn resolved(&self) -> &[usize] {
         &self.resolved
     }

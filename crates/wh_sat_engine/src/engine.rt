@@ -14,7 +14,7 @@ use std::alloc::{AllocError, Global};
 use wh_sat::copy_clause;
 use wh_sat_trail::{Clause, Clauses, Formula, Trail};
 
-/// How many conflicts come before learnt clauses are dropped for the first time, and how many more each time.
+/// After how many conflicts learnt clauses are dropped for the first time, and by how many that number grows each time.
 const FIRST_DROP: u64 = 2000;
 
 const NEXT_DROP: u64 = 300;
@@ -31,7 +31,7 @@ pub struct Engine {
     pause: u64,
 }
 
-/// What comes of one step.
+/// The outcome of one step.
 #[derive(Clone, Copy)]
 enum Step {
     /// A clause was learnt.

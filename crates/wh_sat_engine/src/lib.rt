@@ -1,5 +1,5 @@
-//! A solver of formulas in clauses that learns what resolution gives, drops what has not helped, and keeps a list of
-//! what it learnt with hints. Nothing is claimed of what it finds: who asks it has to check that.
+//! A solver of formulas in clauses that learns what resolution gives, drops what has not helped, and keeps a list with
+//! hints of all that it learnt. Nothing is claimed of its answers: callers check them.
 #![tactic(auto)]
 
 mod attempt;

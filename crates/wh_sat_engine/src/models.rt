@@ -1,4 +1,4 @@
-//! Values for the variables of a formula.
+//! Values for the variables of a formula, and whether they are a model.
 
 ghost use Rattle.std.specs.Bool.{OnTrue};
 ghost use Rattle.std.specs.Prelude.{◌≡◌, get_or, false, true};

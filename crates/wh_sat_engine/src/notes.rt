@@ -23,7 +23,7 @@ pub struct Notes {
     stamp: u64,
 }
 
-/// Of a variable: its last value, and the level where it got it; level 0 is before the first decision.
+/// The note on a variable: its last value, and the level where it got it; level 0 is before the first decision.
 #[derive(Clone, Copy)]
 struct Note {
     positive: bool,
@@ -64,7 +64,7 @@ impl Notes {
         self.forget(trail);
     }
 
-    /// What is true now is noted, and what was true beyond that is not true any more.
+    /// Takes the literals that are true now for noted; what was true beyond them is forgotten.
     pub fn forget(&mut self, trail: &Trail) {
         self.noted = trail.len();
         self.level = trail.levels();

@@ -4,7 +4,7 @@
 
 use std::alloc::{AllocError, Global};
 
-/// A step above this is halved, and all scores with it, as often as makes them small again.
+/// Where a step exceeds this number, it and all scores are halved until they are small again.
 const GREATEST: u64 = 1 << 40;
 
 /// More levels than any heap has.

@@ -1,4 +1,4 @@
-//! What was learnt: the list of all of it, and which of it the trail still has.
+//! The learnt clauses: the list of all of them, and which of them the trail still has.
 
 use std::alloc::{AllocError, Global};
 use std::mem;
@@ -6,11 +6,11 @@ use wh_sat::copy_clause;
 use wh_sat_trail::{Entry, Literal, Refutation};
 use wh_types::{Numbers, counted};
 
-/// Learnt clauses of at most so many levels are kept.
+/// Learnt clauses of at most this number of levels are kept.
 const FEW_LEVELS: u64 = 2;
 
-/// A list of learnt clauses with hints. Of each clause of the trail its number in that list, where the given clauses
-/// are counted first; and of each learnt one of these from how many levels it came.
+/// A list of learnt clauses with hints. For each clause of the trail it has the clause's number in that list, where the
+/// given clauses are counted first, and for each learnt clause of the trail the number of levels that it came from.
 #[derive(Drop)]
 pub struct Shelf {
     given: usize,
@@ -20,7 +20,7 @@ pub struct Shelf {
 }
 
 impl Shelf {
-    /// Nothing is learnt, and so many clauses were given.
+    /// Nothing is learnt, and `given` clauses were given.
     pub fn new(alloc: Global, given: usize) -> Result<Shelf, AllocError> {
         let mut names = Vec::with_capacity(alloc, given)?;
         for number in 0..given {
@@ -61,12 +61,12 @@ impl Shelf {
         self.names.get(number).copied().unwrap_or(u32::MAX)
     }
 
-    // From how many levels a learnt clause of the trail came.
+    // The number of levels that a learnt clause of the trail came from.
     fn glue(&self, place: usize) -> u64 {
         self.glues.get(place).copied().unwrap_or(0)
     }
 
-    /// The latest clause of the list, which came from so many levels, joins the trail.
+    /// The latest clause of the list joins the trail. It came from `glue` levels.
     pub fn join(&mut self, glue: u64) -> Result<(), AllocError> {
         let learnt = self.list.as_slice().len();
         let number = self.given.saturating_add(learnt).saturating_sub(1);
@@ -75,14 +75,15 @@ impl Shelf {
         Ok(())
     }
 
-    /// The number of levels that half of the trail's learnt clauses have at most.
+    /// A number of levels that at least half of the trail's learnt clauses do not exceed.
     pub fn middle(&self, alloc: Global) -> Result<u64, AllocError> {
         let mut glues = Vec::from_slice(alloc, &self.glues)?;
         glues.sort_unstable();
         Ok(glues.get(glues.len() / 2).copied().unwrap_or(FEW_LEVELS))
     }
 
-    /// Whether a clause of the trail stays: it was given, has few levels, or fewer than most, or came later.
+    /// Whether a clause of the trail stays: it was given, it has few levels or fewer than `most`, or it has `most` and
+    /// is in the later half.
     pub fn is_kept(&self, number: usize, most: u64) -> bool {
         if number < self.given {
             return true;

@@ -1,4 +1,4 @@
--- What a formula comes to, with a list where it has no model.
+-- The answers of the solver that gives a list of clauses as evidence where a formula has no model.
 use Rattle.std.specs.Prelude.{◌≡◌, ℕ, ◌+◌, ◌<◌, ◌≤◌, ◌^◌, false, List, Contains, length, get_or}
 use Rattle.wh_sat_trail.specs.declared.literal.Literal.{Literal}
 use Rattle.wh_sat_trail.specs.declared.entry.Entry.{Entry}

@@ -1,4 +1,4 @@
-//! The list of clauses with hints that learnt clauses come to.
+//! Lists of clauses with hints, made of the clauses that the solver of wh_sat learnt.
 
 ghost use Rattle.std.specs.Prelude.{◌≡◌, ℕ, ◌+◌, ◌<◌, ◌≤◌, ◌^◌, [], Contains, IfOk, OnOk, get_or, length, map, take};
 ghost use Rattle.wh_sat_trail.specs.Assignment.{AllBelow, negated};

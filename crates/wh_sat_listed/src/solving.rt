@@ -1,4 +1,4 @@
-//! The solver.
+//! Solving a formula with a list of clauses as evidence. `solve_listed` is the main function.
 
 ghost use Rattle.std.specs.Bool.{OnTrue};
 ghost use Rattle.std.specs.Prelude.{◌≡◌, ◌+◌, ◌-◌, ◌<◌, ◌≤◌, ◌^◌, Contains, IfOk, IfSome, false, get_or, length};
@@ -15,22 +15,22 @@ use wh_sat_engine::{Attempt, is_model, run_engine};
 use wh_sat_trail::{Clauses, Entry, Formula, Refutation};
 use wh_types::Or;
 
-/// What a formula comes to.
+/// The outcome for a formula.
 #[derive(Drop)]
 pub enum Listed {
     /// A truth value for each variable, under which all clauses are true.
     Sat(Vec<bool>),
     /// No values make all clauses true, and this list shows it.
     Unsat(Refutation),
-    /// The clauses that were learnt, as many as may be.
+    /// The clauses that were learnt, as many as may be. Whether there is a model is open.
     Spent(Clauses),
 }
 
 /// Solves a formula as `solve` of wh_sat does, and where it has no model gives a list that shows it. The engine of
-/// wh_sat_engine searches first, and what it finds is believed only after a look: values that make all clauses true, or a
-/// list that the checker accepts. Where it finds neither, the solver of wh_sat does; its list is of the clauses that it
-/// learnt, in their order, with hints that are sought once its search has ended, and of the empty clause. At most
-/// `budget` clauses are learnt; where none may be, the answer is `Spent`. The error is want of memory.
+/// wh_sat_engine searches first. Its result is believed only after a look: values have to make all clauses true, and
+/// the checker has to accept a list. Where it finds neither, the solver of wh_sat goes on; its list is of the clauses
+/// that it learnt, in their order, with hints that are sought once its search has ended, and of the empty clause. At
+/// most `budget` clauses are learnt; where none may be, the answer is `Spent`. The error is want of memory.
 pub fn solve_listed(alloc: Global, formula: &Formula, budget: u64) -> Result<Listed, AllocError>
     requires within { Within formula.now.variables formula.now.clauses }
     requires few { length formula.now.clauses + budget < 2 ^ 31 - 1 }

@@ -1,4 +1,5 @@
--- What the short clauses tell, once the queue is empty.
+-- The answer about the short clauses, once the queue is empty: none says anything, one is false, or one forces a
+-- literal.
 use Rattle.std.specs.Prelude.{◌<◌, List, [], length, get_or}
 use Rattle.wh_sat_trail.specs.declared.literal.Literal.{Literal}
 use Rattle.wh_sat_trail.specs.declared.watch.Find.{Find}

@@ -1,4 +1,4 @@
--- What one look at a clause tells.
+-- The answer of one look at a clause under an assignment.
 use Rattle.std.specs.Prelude.{◌≡◌, ◌<◌, List, true, vec_len}
 use Rattle.wh_sat_trail.specs.declared.literal.Literal.{Literal}
 use Rattle.wh_sat_trail.specs.declared.assignment.Assignment.{Assignment}

@@ -1,4 +1,4 @@
--- What others see of a trail.
+-- The state of a trail as its callers see it: its formula, and the literals that are true.
 use Rattle.std.specs.Prelude.{ℕ, List, map}
 use Rattle.wh_sat_trail.specs.declared.literal.Literal.{Literal}
 use Rattle.wh_sat_trail.specs.declared.formula.Formula.{Formula}

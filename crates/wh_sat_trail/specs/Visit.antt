@@ -1,4 +1,4 @@
--- What a visit of one clause leaves.
+-- The state behind a visit of one clause that watches a false literal.
 use Rattle.std.specs.Prelude.{◌≡◌, ℕ, ◌+◌, ◌<◌, List, [], length, get_or}
 use Rattle.wh_sat_trail.specs.declared.literal.Literal.{Literal}
 use Rattle.wh_sat_trail.specs.declared.trail.Trail.{Trail}

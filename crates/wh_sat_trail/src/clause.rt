@@ -1,4 +1,4 @@
-//! Clauses and lists of clauses.
+//! Clauses, which are lists of literals, and lists of clauses.
 
 ghost use Rattle.std.specs.Prelude.{◌≡◌, IfOk, OnOk, OnErr, [], ◌∷◌, ◌++◌, take};
 

@@ -12,11 +12,11 @@ use crate::literal::Literal;
 
 /// What a clause says: nothing, that it is false, or that a literal has to be true.
 pub enum Look {
-    /// Nothing: a literal is true, or two have no value.
+    /// The clause says nothing: a literal is true, or two have no value.
     Quiet,
-    /// All its literals are false.
+    /// All literals of the clause are false.
     Refuted,
-    /// All but this one are false, which has no value.
+    /// This literal has no value, and all others are false.
     Forces(Literal),
 }
 
@@ -60,8 +60,8 @@ impl Assignment {
         false
     }
 
-    /// A literal that is not false, and not the other one, with its place. It is looked for from a place on, and then
-    /// before that.
+    /// A literal of the clause that is not false, and not `other`, with its place. It is looked for from the place
+    /// `from` on, and then before it.
     pub fn replacement(
         &self,
         clause: &[Literal],
@@ -80,7 +80,8 @@ impl Assignment {
         }
     }
 
-    /// The same among the literals from a place to another.
+    /// A literal of the clause that is not false, and not `other`, with its place, which is at least `from` and below
+    /// `to`.
     fn replacement_in(
         &self,
         clause: &[Literal],

@@ -1,4 +1,4 @@
-//! What the trail keeps for its watched literals.
+//! The data of the two-watched-literals scheme: which literals each clause watches, and which clauses watch a literal.
 
 ghost use Rattle.std.specs.Prelude.{◌≡◌};
 ghost use Rattle.wh_sat_trail.specs.Code.{code_of};
@@ -44,7 +44,7 @@ pub struct Places {
 }
 
 impl Places {
-    /// No clause.
+    /// The places of no clause.
     pub fn new(alloc: Global) -> Places {
         Places {
             items: Vec::new(alloc),

@@ -1,5 +1,5 @@
--- What a part that is put at a place brings to the tree around it: to its height, and to the spine that it joins.
--- Working forms: none of it is told to a caller.
+-- What a part that is put at a position brings to the tree around it: to its height, and to the spine that it joins.
+-- These are working forms, which callers do not see.
 use Rattle.std.specs.Prelude.{ℕ, zero, suc, ◌≡◌, ◌+◌, ◌≤◌, Bool, true, false, List, [], ◌∷◌, Option, Some, None}
 use Rattle.wh_types.specs.Limits.{most_arguments, greatest_height, greatest_size}
 use Rattle.wh_terms.specs.Tree.{Tm, lam, app, argument_count}
@@ -75,7 +75,7 @@ abbrev pub NewSize : Tm → Option ℕ → Type 0
 NewSize w (Some n) = Fits w × (n ≡ size w)
 NewSize w None = Fits w → ⊥
 
--- these measures, or they do not keep the limits
+-- the joint has these measures, or they do not keep the limits
 abbrev pub LimitsJoint : ℕ → ℕ → Bool → Bool → Option Joint → Type 0
 LimitsJoint h n f a (Some j) = (j.height ≡ h) × (j.arguments ≡ n) × (j.is_front ≡ f) × (j.is_applied ≡ a)
 LimitsJoint h n f a None = h ≤ greatest_height → n ≤ most_arguments → ⊥

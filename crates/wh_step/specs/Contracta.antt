@@ -1,4 +1,4 @@
--- What the parts of a step's result stand for.
+-- The parts of a step's result before it is built: which term they make, and what is known of them.
 use Rattle.std.specs.Prelude.{ℕ, List, [], ◌∷◌, Option, Some, None, All}
 use Rattle.wh_terms.specs.Tree.{Tm, Tms}
 use Rattle.wh_terms.specs.Erase.{tm}
@@ -46,7 +46,7 @@ abbrev pub results_of : Option Contractum → List Tm
 results_of None = []
 results_of (Some c) = result_of c ∷ []
 
--- the same of parts that there may be
+-- the parts are ready, where there are any
 abbrev pub AreReady : Option Contractum → Type 0
 AreReady None = Unit {0}
 AreReady (Some c) = IsReady c

@@ -1,4 +1,4 @@
--- The extents of trees, and what a measuring answers.
+-- The extents of trees (size, height, length of the spine), and the answers of the walks that measure them.
 use Rattle.std.specs.Prelude.{ℕ, ◌≡◌, ◌≤◌, List, [], ◌∷◌, Option, Some, None, Result, Ok, Err}
 use Rattle.wh_types.specs.Limits.{most_arguments, greatest_height, greatest_size}
 use Rattle.wh_types.specs.declared.want.Or.{Or}
@@ -21,7 +21,7 @@ Measures t (Ok e) = IsExtent t e
 Measures t (Err NoMemory) = Unit {0}
 Measures t (Err (Because _)) = Fits t → ⊥
 
--- the same of an answer that is known to be there
+-- the extent is the one of the tree where one is known, and the tree does not fit where none is
 abbrev pub Knows : Tm → Option Extent → Type 0
 Knows t (Some e) = IsExtent t e
 Knows t None = Fits t → ⊥

@@ -1,4 +1,4 @@
--- Reductions, their length, and what it is to have a bound on them or to have none.
+-- Reductions and their length: `Bounded` terms have a bound on it, `Unbounded` terms have none.
 use Rattle.std.specs.Prelude.{ℕ, ◌≡◌, ◌≤◌, List, [], ◌∷◌, length}
 use Rattle.wh_terms.specs.Tree.{Tm}
 use Rattle.wh_terms.specs.Rules.{RewriteRule}

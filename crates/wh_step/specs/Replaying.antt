@@ -1,4 +1,4 @@
--- What a replay answers.
+-- The answer of a replay: the last term, or the first step that fails.
 use Rattle.std.specs.Prelude.{List, Result, Ok, Err}
 use Rattle.wh_terms.specs.Tree.{Tm}
 use Rattle.wh_terms.specs.Erase.{tm}

@@ -1,4 +1,4 @@
--- One step of a system: beta, or a rule, at any place.
+-- One step of a system: by beta, or by a rule, at any position. Reductions are made of such steps.
 use Rattle.std.specs.Prelude.{ℕ, ◌≡◌, List, Contains}
 use Rattle.wh_types.specs.Ty.{Ty}
 use Rattle.wh_terms.specs.Tree.{Tm, free, lam, app}

@@ -1,4 +1,4 @@
--- What a step in place comes to. Working forms: none of it is told to a caller.
+-- The outcome of a step in place. These are working forms, which callers do not see.
 use Rattle.std.specs.Prelude.{ℕ, ◌≡◌, List}
 use Rattle.wh_terms.specs.Tree.{Tm}
 use Rattle.wh_terms.specs.Measures.{size, Fits}

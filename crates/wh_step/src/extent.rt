@@ -1,4 +1,5 @@
-//! The extent of a term that fits: what is to be known of the parts of a term to know it of the term.
+//! The extent of a term that fits: its size, its height and the length of its spine. From the extents of its parts
+//! follows the extent of a term.
 
 ghost use Rattle.std.specs.Prelude.{◌≤◌};
 ghost use Rattle.wh_types.specs.Limits.{most_arguments, greatest_height, greatest_size};
@@ -6,9 +7,9 @@ ghost use Rattle.wh_types.specs.Limits.{most_arguments, greatest_height, greates
 /// The measures of a term that fits.
 #[derive(Clone, Copy)]
 pub struct Extent {
-    /// Its size.
+    /// The size of the term.
     pub size: u32,
-    /// Its height.
+    /// The height of the term.
     pub height: u32,
     /// The number of arguments of the spine that it is.
     pub arguments: u32,

@@ -24,7 +24,7 @@ use crate::redex::Contractum;
 use std::alloc::{AllocError, Global};
 use wh_terms::{MOST_ARGUMENTS, MOST_HEIGHT, MOST_SIZE, Term, size};
 
-// These measures, if they keep the limits.
+// A joint with these measures, if they keep the limits.
 fn limited(height: u32, arguments: u32, is_front: bool, is_applied: bool) -> Option<Joint>
     ensures { LimitsJoint height arguments is_front is_applied result }
 {

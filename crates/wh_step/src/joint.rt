@@ -1,4 +1,5 @@
-//! What a part of a term that fits brings to the term: what is to be known of the part and its place to know the rest.
+//! Joints: what a part of a term that fits brings to the height of the term and to its spine. They are enough to know
+//! the measures of the whole term.
 
 ghost use Rattle.std.specs.Prelude.{◌≤◌};
 ghost use Rattle.wh_types.specs.Limits.{most_arguments, greatest_height};

@@ -36,8 +36,8 @@ pub fn steps_under_substitution()
         → Step rules (act bound φ t) (act bound φ u) }
 {}
 
-/// An abstraction steps in its body alone, and then the body steps whatever term opens it. (That a step of bodies which
-/// a fresh variable opens is a step of the abstractions stands in the definition of a step.)
+/// An abstraction steps in its body alone, and then the body steps whatever term opens it. (The definition of a step
+/// says the converse: a step of bodies that a fresh variable opens is a step of the abstractions.)
 pub fn steps_of_abstractions()
     ensures { (S : Symbols) (rules : List RewriteRule) (a : Ty) (t v : Tm) → AreWellMade S rules → LooseBelow 0 (lam a t)
         → IsTerm (lam a t) → Step rules (lam a t) v → (t' : Tm) × (v ≡ lam a t')

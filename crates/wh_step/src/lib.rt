@@ -1,4 +1,4 @@
-//! Steps of a system: reducts, a step at a place, and replay.
+//! Steps of a system, by a rule or by beta: the reducts of a term, a step at a position, and replay of a list of steps.
 #![tactic(auto)]
 
 ghost use Rattle.std.specs.Prelude.{◌≡◌, ℕ, List};

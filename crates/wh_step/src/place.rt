@@ -1,4 +1,4 @@
-//! A step at a place.
+//! A step at a position: `step_at` takes it and `replace_at` puts a part in the place of another.
 
 ghost use Rattle.std.specs.Prelude.{◌≡◌, ℕ, IfOk, MatchOption, Some, None};
 ghost use Rattle.wh_types.specs.Erase.{ty};

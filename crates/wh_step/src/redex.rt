@@ -36,7 +36,7 @@ fn same_head(pattern: &Term, term: &Term) -> bool
     }
 }
 
-/// The step of an abstraction with an argument.
+/// The step at the root by beta, where the term is an abstraction applied to an argument.
 pub fn beta_step<'a>(term: &'a Term) -> Option<Contractum<'a>>
     requires plain { IsPlain (tm term.now) }
     ensures { MatchOption result ((v : Tm) → BetaStep (tm term.now) v → ⊥) (λ c. IsReady c × BetaStep (tm term.now) (result_of c)) }
@@ -91,7 +91,7 @@ pub fn root_step<'a>(
     }
 }
 
-/// The result of the step.
+/// The term that the parts of the step's result make.
 pub fn build(alloc: Global, contractum: &Contractum<'_>) -> Result<Term, AllocError>
     requires { IsReady contractum.now }
     ensures { IfOk result (λ r. tm r ≡ result_of contractum.now) }

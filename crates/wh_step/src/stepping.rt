@@ -28,10 +28,10 @@ pub enum Replacement {
     PastLimit,
 }
 
-// What a step comes to.
+// The outcome of a step.
 #[derive(Drop)]
 pub enum Outcome {
-    // It is taken; the size of the result.
+    // The step is taken; this is the size of the result.
     Taken(u64),
     // The step does not apply.
     Nowhere,

@@ -1,4 +1,4 @@
-//! The extent of a term, told from the extents of its parts.
+//! The extent of a term, computed from the extents of its parts. `measuring` and `joining` go by it.
 
 ghost use Rattle.std.specs.Prelude.{◌≡◌, ◌≤◌, ◌+◌, ℕ};
 ghost use Rattle.wh_types.specs.Ty.{Ty};

@@ -11,7 +11,7 @@ pub sorts-more : (m n : ℕ) (a : Ty) → m ≤ n → SortsBelow m a → SortsBe
 sorts-more m n (sort s) h b = omega arith
 sorts-more m n (a ⇒ b) h s = (sorts-more m n a h s.0, sorts-more m n b h s.1)
 
--- the same symbols over n sorts
+-- the symbols of S over n sorts
 abbrev pub over_sorts : ℕ → Symbols → Symbols
 over_sorts n S = record { sorts = n; funs = S.funs }
 

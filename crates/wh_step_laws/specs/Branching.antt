@@ -1,4 +1,4 @@
--- Lists of all that a relation leads to.
+-- Finite branching: lists of all that a relation leads to from one thing.
 use Rattle.std.specs.Prelude.{List, Contains}
 
 -- the list has exactly what R leads to from a

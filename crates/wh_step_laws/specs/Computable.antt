@@ -1,4 +1,4 @@
--- Computability of terms by ranks and types.
+-- Computability of terms by ranks of sorts and by types (Tait's method), from which termination follows.
 use Rattle.std.specs.Prelude.{ℕ, zero, suc, ◌≡◌, Bool, true, false, ltb, List, [], ◌∷◌, Some, slice_get}
 use Rattle.wh_types.specs.Ty.{Ty, sort, ◌⇒◌, SortsBelow}
 use Rattle.wh_terms.specs.Tree.{Tm, fun, app, spine}
@@ -40,15 +40,15 @@ ComputableBelow S rank R (suc k) a t = ComputableUpTo S rank R (ComputableBelow 
 abbrev pub Computable : Symbols → (ℕ → ℕ) → (Tm → Tm → Type 0) → Ty → Tm → Type 0
 Computable S rank R a = ComputableBelow S rank R (above_ranks rank a) a
 
--- what it is at the sort s: the term is well typed, its reducts are computable, and so is each argument at an
--- accessible place, where it is a symbol with arguments
+-- computability at the sort s: the term is well typed, its reducts are computable, and so is each argument at an
+-- accessible place, where the term is a symbol with arguments
 pub record IsComputableAtSort (S : Symbols) (rank : ℕ → ℕ) (R : Tm → Tm → Type 0) (s : ℕ) (t : Tm) : Type 0 where
   pub typed : Typed S [] [] t (sort s)
   pub reducts : (u : Tm) → R t u → Computable S rank R (sort s) u
   pub accessible : (f i : ℕ) (a : Ty) (ts : List Tm) (u : Tm) → t ≡ spine (fun f) ts → PlaceHas S f i a → IsAccessibleIn rank s a
       → slice_get ts i ≡ Some u → Computable S rank R a u
 
--- what it is at the arrow a ⇒ b: the term is well typed, and takes computable terms to computable ones
+-- computability at the arrow a ⇒ b: the term is well typed, and takes computable terms to computable ones
 pub record IsComputableAtArrow (S : Symbols) (rank : ℕ → ℕ) (R : Tm → Tm → Type 0) (a b : Ty) (t : Tm) : Type 0 where
   pub typed : Typed S [] [] t (a ⇒ b)
   pub takes : (u : Tm) → Computable S rank R a u → Computable S rank R b (app t u)

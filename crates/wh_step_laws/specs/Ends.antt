@@ -1,4 +1,4 @@
--- No endless descent, by any relation.
+-- `Ends`: no endless descent goes out from a thing, by any relation.
 use Rattle.std.specs.Prelude.{◌≤◌, List, ◌∷◌, length}
 use Rattle.wh_step.specs.Reduction.{Walk}
 

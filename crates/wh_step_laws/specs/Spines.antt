@@ -1,4 +1,4 @@
--- How a head with arguments steps.
+-- How a head with arguments steps: in the head, in an argument, by a front part, or by opening an abstraction.
 use Rattle.std.specs.Prelude.{◌≡◌, List, ◌∷◌, ◌++◌}
 use Rattle.wh_terms.specs.Tree.{Tm, spine}
 use Rattle.wh_terms.specs.Substitution.{opened}

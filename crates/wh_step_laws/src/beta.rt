@@ -1,4 +1,4 @@
-//! The first theorem of the kind that users want.
+//! The first law of the kind that users want: beta alone ends on well-typed terms.
 
 ghost use Rattle.std.specs.Prelude.{[]};
 ghost use Rattle.wh_types.specs.Ty.{Ty};

@@ -1,4 +1,4 @@
-//! Bounds on reductions, and accessibility.
+//! Laws on bounded terms: what a bound on the reductions from a term says of its reducts and of its parts.
 
 ghost use Rattle.std.specs.Prelude.{List, ◌↔◌, All};
 ghost use Rattle.wh_terms.specs.Tree.{Tm};

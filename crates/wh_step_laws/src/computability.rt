@@ -1,4 +1,4 @@
-//! Computability by ranks and types, for the steps of a system.
+//! Laws of computability by ranks and types, for the steps of a system (Tait's method). Termination rests on them.
 
 ghost use Rattle.std.specs.Prelude.{ℕ, ◌≡◌, ◌↔◌, List, [], Some, slice_get};
 ghost use Rattle.wh_types.specs.Ty.{Ty, sort, ◌⇒◌, SortsBelow};

@@ -23,21 +23,22 @@ pub fn steps_are_over_rules()
         → (Step rules t u ↔ StepOver (RuleRoot rules) t u) }
 {}
 
-/// A symbol with arguments steps in one of these, or by a rule at a front part.
+/// A symbol with arguments steps in one of the arguments, or by a rule for the symbol with its first arguments.
 pub fn steps_of_symbols_with_arguments()
     ensures { (S : Symbols) (rules : List RewriteRule) (f : ℕ) (ts : List Tm) (v : Tm) → AreWellMade S rules
         → LooseBelow 0 (spine (fun f) ts) → IsTerm (spine (fun f) ts) → Step rules (spine (fun f) ts) v
         → ArgumentStep (Step rules) (fun f) ts v ⊎ FrontStep (RuleRoot rules) (fun f) ts v }
 {}
 
-/// A variable with arguments steps in one of these.
+/// A variable with arguments steps in one of the arguments.
 pub fn steps_of_variables_with_arguments()
     ensures { (S : Symbols) (rules : List RewriteRule) (x : ℕ) (a : Ty) (ts : List Tm) (v : Tm) → AreWellMade S rules
         → LooseBelow 0 (spine (free x a) ts) → IsTerm (spine (free x a) ts) → Step rules (spine (free x a) ts) v
         → ArgumentStep (Step rules) (free x a) ts v }
 {}
 
-/// An abstraction with arguments steps in its body, in one of these, or to its body opened by the first of them.
+/// An abstraction with arguments steps in its body, in one of the arguments, or to its body opened by the first of
+/// them.
 pub fn steps_of_abstractions_with_arguments()
     ensures { (S : Symbols) (rules : List RewriteRule) (a : Ty) (t : Tm) (ts : List Tm) (v : Tm) → AreWellMade S rules
         → LooseBelow 0 (spine (lam a t) ts) → IsTerm (spine (lam a t) ts) → Step rules (spine (lam a t) ts) v

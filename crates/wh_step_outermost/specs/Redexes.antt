@@ -1,4 +1,4 @@
--- Redexes of trees with loose variables. Working forms: none of it is told to a caller.
+-- Redexes of trees with loose variables. These are working forms, which callers do not see.
 use Rattle.std.specs.Prelude.{ℕ, ◌≡◌, ◌<◌, ◌⊎◌, List, [], ◌∷◌, Option, Some, reverse}
 use Rattle.wh_terms.specs.Tree.{Tm}
 use Rattle.wh_terms.specs.Places.{part_at}

@@ -1,4 +1,4 @@
--- What a reduction by leftmost-outermost steps ends with.
+-- The answer of a reduction by leftmost-outermost steps: how many were taken, the last term, and why it ends there.
 use Rattle.std.specs.Prelude.{ℕ, ◌≡◌, ◌<◌, ◌≤◌, List}
 use Rattle.wh_terms.specs.Tree.{Tm}
 use Rattle.wh_terms.specs.Measures.{Fits}

@@ -1,4 +1,4 @@
--- What of a tree a step at a place has to do with.
+-- The strand of a tree along a path: what of the tree a step at the end of the path depends on.
 use Rattle.std.specs.Prelude.{ℕ, zero, suc, List, [], ◌∷◌}
 use Rattle.wh_terms.specs.Tree.{Tm, fun, lam, app}
 

@@ -1,4 +1,4 @@
--- What a step of a term in place comes to. Working forms: none of it is told to a caller.
+-- The outcome of a step of a term in place. These are working forms, which callers do not see.
 use Rattle.std.specs.Prelude.{ℕ, ◌≡◌, List, Option, Some, None}
 use Rattle.wh_terms.specs.Tree.{Tm}
 use Rattle.wh_terms.specs.Erase.{tm}

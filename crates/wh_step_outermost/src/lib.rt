@@ -1,4 +1,4 @@
-//! The leftmost-outermost step of a term, and reduction by such steps.
+//! The leftmost-outermost step of a term, and reduction by such steps, as the command `reduce` takes them.
 #![tactic(auto)]
 
 mod laws;

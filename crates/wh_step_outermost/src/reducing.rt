@@ -1,4 +1,5 @@
-//! Reduction by leftmost-outermost steps.
+//! Reduction by leftmost-outermost steps: `reduce` goes on until a normal form, a number of steps or a limit is
+//! reached.
 
 ghost use Rattle.std.specs.Prelude.{◌≡◌, IfOk};
 ghost use Rattle.wh_terms.specs.Typing.{Symbols};
@@ -17,9 +18,9 @@ use wh_terms::{Path, Rule, Term, copy_term, size};
 /// Why a reduction ends.
 #[derive(Clone, Copy)]
 pub enum End {
-    /// Its last term has no reduct.
+    /// The last term has no reduct.
     Normal,
-    /// Its last term has a reduct, and as many steps are taken as were asked for.
+    /// The last term has a reduct, and as many steps are taken as were asked for.
     Spent,
     /// Fewer steps are taken than were asked for, and the result of the next one does not fit.
     TooBig,

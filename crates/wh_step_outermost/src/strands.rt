@@ -1,4 +1,4 @@
-//! What of a term a step at a place has to do with: the path, and the part that it leads to.
+//! Strands: the path of a step in a term with the part that it leads to, and without the parts beside the path.
 
 ghost use Rattle.std.specs.Prelude.{◌≡◌, IfOk, Some};
 ghost use Rattle.wh_terms.specs.Tree.{Tm};

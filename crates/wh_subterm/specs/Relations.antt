@@ -20,7 +20,7 @@ Relates a i j is.Equal = EqualAt a i j
 Relates a i j is.Below = BelowAt a i j
 Relates a i j is.Neither = (EqualAt a i j ⊎ BelowAt a i j) → ⊥
 
--- the same of two trees
+-- how the tree u stands to the tree t: it is equal, a proper part, or neither
 abbrev pub IsRelation : Tm → Tm → Relation → Type 0
 IsRelation t u is.Equal = t ≡ u
 IsRelation t u is.Below = Part u t

@@ -58,7 +58,7 @@ pub record IsProjection (rules : List RewriteRule) (pairs : List PairData) (set 
   pub places : All (IsPlace rules) args
   -- some pair is dropped
   pub some_dropped : drop ≢ []
-  -- none is dropped twice
+  -- no pair is dropped twice
   pub once : (i j n : ℕ) → slice_get drop i ≡ Some n → slice_get drop j ≡ Some n → i ≡ j
   -- what is dropped is of the set
   pub within : All (Contains set) drop

@@ -43,7 +43,7 @@ pub fn check_projection(
     )
 }
 
-// The same with the lists' elements.
+// Whether the choices and the dropped pairs meet the conditions of `check_projection`, on the elements of the lists.
 fn check_conditions(
     system: &System,
     pairs: &[Pair],

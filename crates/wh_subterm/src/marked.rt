@@ -1,4 +1,4 @@
-//! The marked symbols of a set of pairs, and what is chosen for them.
+//! The marked symbols of a set of pairs, and the tests of the choices for them.
 
 ghost use Rattle.std.specs.Prelude.{◌≡◌, ◌≢◌, ◌↔◌, ◌<◌, ◌⊎◌, ℕ, All, Contains, IsTrue, MatchOption, length, map};
 ghost use Rattle.wh_pairs.specs.PairData.{IsIncreasing, pair_data};

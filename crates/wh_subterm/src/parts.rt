@@ -1,4 +1,4 @@
-//! Proper parts of a term that are reached through arguments alone.
+//! Proper parts of a term that are reached through arguments of symbols alone.
 
 ghost use Rattle.std.specs.Prelude.{◌↔◌, IsTrue};
 ghost use Rattle.wh_terms.specs.Erase.{tm};

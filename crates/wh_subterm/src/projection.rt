@@ -1,4 +1,4 @@
-//! Projections as data, and what can be wrong with one.
+//! Projections as data: an argument chosen for each marked symbol, and what can be wrong with the choice.
 
 use wh_types::List;
 

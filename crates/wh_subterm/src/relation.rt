@@ -9,10 +9,10 @@ use crate::parts::has_part;
 use wh_pairs::Pair;
 use wh_terms::{Term, Terms, same};
 
-/// What the chosen arguments of a pair are to one another.
+/// The relation of the chosen arguments of a pair.
 #[derive(Clone, Copy)]
 pub enum Relation {
-    /// They are the same tree.
+    /// The two arguments are the same tree.
     Equal,
     /// The right one is a proper part of the left one, reached through arguments of spines that symbols head.
     Below,
@@ -20,7 +20,7 @@ pub enum Relation {
     Neither,
 }
 
-/// What the arguments of a pair at two places, counted from 0, are to one another.
+/// The relation of the arguments of a pair at two places, counted from 0.
 pub fn relation_at(pair: &Pair, left: u32, right: u32) -> Relation
     ensures { Relates (pair_data pair.now) left right result }
 {
@@ -45,7 +45,7 @@ fn argument(terms: &Terms, place: u32) -> Option<&Term>
     }
 }
 
-// What two terms are to one another.
+// The relation of two terms.
 fn compared(left: &Term, right: &Term) -> Relation
     ensures { IsRelation (tm left.now) (tm right.now) result }
 {

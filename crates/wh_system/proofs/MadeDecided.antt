@@ -253,7 +253,7 @@ headed_decided (meta z ts) = inr (λ p. let e = p.1 in absurd (cc))
 headed_decided (lam a t) = inr (λ p. let e = p.1 in absurd (cc))
 headed_decided (app t u) = inr (λ p. let e = p.1 in absurd (cc))
 
--- both trees have one type
+-- the two trees have one type
 abbrev OfOneType : Symbols → List Declared → Tm → Tm → Type 0
 OfOneType S M t u = (a : Ty) × Typed S M [] t a × Typed S M [] u a
 

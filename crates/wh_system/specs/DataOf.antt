@@ -1,4 +1,4 @@
--- The system of given names, signature and rules.
+-- The system, as data, that names, a signature and rules make.
 use Rattle.std.specs.Prelude.{List}
 use Rattle.wh_terms.specs.Erase.{symbols, rewrite_rules}
 use Rattle.wh_terms.specs.declared.rule.Rule.{Rule}

@@ -1,4 +1,4 @@
--- How many arguments the rules of a symbol need (ours).
+-- How many arguments the rules of a symbol need: those of its left sides (ours).
 use Rattle.std.specs.Prelude.{ℕ, ◌==◌, Bool, true, false, List, [], ◌∷◌, Option, Some, None}
 use Rattle.wh_terms.specs.Tree.{Tm, fun, head, argument_count}
 use Rattle.wh_terms.specs.Rules.{RewriteRule}
@@ -7,7 +7,7 @@ abbrev pub is_symbol : ℕ → Tm → Bool
 is_symbol f (fun g) = f == g
 is_symbol f _ = false
 
--- the number of arguments, or else what comes after
+-- the number of arguments where it is given, or else the rest
 abbrev pub first_need : Bool → ℕ → Option ℕ → Option ℕ
 first_need true n rest = Some n
 first_need false n rest = rest

@@ -16,7 +16,8 @@ abbrev mutual
   part_nesting (sort s) = 0
   part_nesting (a ⇒ b) = 1 + max (part_nesting a) (type_nesting b)
 
--- the same of types as they are written: of one as a part of something else, and the most among parts
+-- how deep the parentheses nest in types as they are written: in one as a part of something else, and the most among
+-- parts
 abbrev mutual
   pub raw_part_nesting : RTy → ℕ
   raw_part_nesting (raw_type no_types s at) = 0
@@ -26,7 +27,7 @@ abbrev mutual
   raw_parts_nesting no_types = 0
   raw_parts_nesting (more_types a rest) = max (raw_part_nesting a) (raw_parts_nesting rest)
 
--- and of one by itself
+-- how deep the parentheses nest in a type by itself
 abbrev pub raw_nesting : RTy → ℕ
 raw_nesting (raw_type args s at) = raw_parts_nesting args
 
@@ -48,7 +49,7 @@ abbrev mutual
   AllTypesNestWithin n no_tms = Unit {0}
   AllTypesNestWithin n (more_tms t ts) = TypesNestWithin n t × AllTypesNestWithin n ts
 
--- the same of a term as it is written
+-- the parentheses of the types in a term, as it is written, nest at most n deep
 abbrev mutual
   pub RawTypesNestWithin : ℕ → RTm → Type 0
   RawTypesNestWithin n (free_variable k a at) = raw_part_nesting a ≤ n

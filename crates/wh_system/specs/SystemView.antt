@@ -1,4 +1,4 @@
--- What a `System` stands for: without pointers.
+-- The data that a `System` of the program stands for, without pointers.
 use Rattle.wh_system.specs.declared.system.System.{System}
 use Rattle.wh_system.specs.DataOf.{data_of}
 use Rattle.wh_system.specs.Systems.{SystemData}

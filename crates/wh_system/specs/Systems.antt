@@ -1,4 +1,4 @@
--- What a system is.
+-- A system as data: its names, its signature and its rules.
 use Rattle.std.specs.Prelude.{ℕ, List}
 use Rattle.wh_terms.specs.Typing.{Symbols}
 use Rattle.wh_terms.specs.Rules.{RewriteRule}

@@ -1,4 +1,4 @@
--- What makes a system well made.
+-- Well-made systems: declared sorts, distinct names, well-made rules, and the limits. Every `System` is one.
 use Rattle.std.specs.Prelude.{ℕ, ◌+◌, ◌≤◌, ◌≡◌, ◌≢◌, List, length, map, All, AllPairs}
 use Rattle.wh_types.specs.Limits.{deepest_type, most_sorts, most_symbols, most_rules, most_arguments}
 use Rattle.wh_types.specs.Ty.{Ty, sort, ◌⇒◌, arguments, SortsBelow}
@@ -27,7 +27,7 @@ abbrev mutual
   AllTypesWithin n none = Unit {0}
   AllTypesWithin n (more t ts) = TypesWithin n t × AllTypesWithin n ts
 
--- a type of a system with so many sorts: its sorts are there, no type in it has more than 32 arguments, and its
+-- a type of a system with `sorts` sorts: its sorts are there, no type in it has more than 32 arguments, and its
 -- parentheses nest at most 16 deep (ours)
 pub record IsTypeOver (sorts : ℕ) (a : Ty) : Type 0 where
   pub sorts_are_there : SortsBelow sorts a

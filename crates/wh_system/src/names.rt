@@ -1,15 +1,15 @@
-//! The names of a system.
+//! The names of a system, which its terms and its texts are printed with.
 
 use wh_text::Name;
 use wh_types::List;
 
-/// The names of what a system has, by number.
+/// The names of a system's sorts, symbols and meta-variables, by number.
 #[derive(Drop)]
 pub struct SystemNames {
-    /// Those of the sorts.
+    /// The names of the sorts.
     pub sorts: List<Name>,
-    /// Those of the symbols.
+    /// The names of the symbols.
     pub funs: List<Name>,
-    /// Those of the meta-variables of each rule.
+    /// The names of the meta-variables of each rule.
     pub metas: Vec<List<Name>>,
 }

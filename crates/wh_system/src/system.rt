@@ -1,4 +1,4 @@
-//! Systems.
+//! Systems. A `System` can be made only of data that is well made, so no caller has to test one.
 
 ghost use Rattle.std.specs.Prelude.{◌≡◌, ℕ, Option, Some, length, slice_get};
 ghost use Rattle.wh_terms.specs.Erase.{rewrite_rules};
@@ -30,8 +30,8 @@ impl System {
     ghost use Rattle.wh_system.specs.Needs.{need_of};
     ghost use Rattle.wh_system.specs.WellMade.{IsWellMadeSystem};
 
-    /// The well-made system of these names, this signature and these rules, which for each symbol need that many
-    /// arguments.
+    /// The well-made system of these names, this signature and these rules. `needs` has for each symbol the number of
+    /// arguments that its rules have on the left, if it has rules.
     pub fn new(
         names: SystemNames,
         signature: Signature,
@@ -90,7 +90,7 @@ impl System {
         &self.names.metas[rule as usize].as_slice()[k as usize]
     }
 
-    /// How many arguments the left sides of the rules of that symbol have; `None` exactly where it has no rules. A
+    /// How many arguments the left sides of the rules of symbol `k` have; `None` exactly where it has no rules. A
     /// number that is no symbol's has none either.
     pub fn need(&self, k: u32) -> Option<u32>
         ensures { result ≡ need_of (system_data self.now).rules k }

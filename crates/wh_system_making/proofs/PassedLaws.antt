@@ -13,7 +13,7 @@ passed_first {t} {ts} p = (no_fault_at_test t.fails t.fault ts p.none_fails).0
 pub passed_rest : {t : Test} {ts : List Test} → Passed (t ∷ ts) → Passed ts
 passed_rest {t} {ts} p = record { none_fails = (no_fault_at_test t.fails t.fault ts p.none_fails).1 }
 
--- both parts of a list
+-- where the tests of two lists together pass, those of each list do
 pub passed_parts : (ts us : List Test) → Passed (ts ++ us) → Passed ts × Passed us
 passed_parts ts us p =
     let parts = no_fault_in_parts ts us p.none_fails in

@@ -16,7 +16,7 @@ new_name names i name distinct within is =
         let below : k < i = subst (λ n. k < n) (length-take-le i names (omega arith)) l in
         distinct k i [] below within (sym (get_or-take i names k [] below) ∙ e ∙ is ∙ get_or_default names i name [] within)
 
--- so it joins
+-- a name that is not declared joins the names
 pub joined : (joined : Bool) (old new : List (List ℕ)) (name : List ℕ) → is_declared old name ≡ false
     → MatchBool joined ((is_declared old name ≡ false) × (new ≡ old ++ name ∷ [])) ((is_declared old name ≡ true) × (new ≡ old)) → new ≡ old ++ name ∷ []
 joined true old new name other answer = answer.1

@@ -15,7 +15,7 @@ pub record AreProper (p : RParts) : Type 0 where
   pub metas : All (λ r. All (λ m. IsName m.name.name) r.metas) p.rules
   -- the type of each symbol nests at most 16 deep
   pub fun_types : All (λ f. raw_nesting f.kind ≤ deepest_type) p.funs
-  -- so does each type of a meta-variable, in its brackets and behind them
+  -- types of meta-variables nest no deeper, in their brackets and behind them
   pub meta_types : All (λ r. All (λ m. RawTypesNestEach deepest_type m.args × (raw_nesting m.out ≤ deepest_type)) r.metas) p.rules
-  -- so does each type in a side, where it is a part
+  -- types in sides nest no deeper, where they are parts
   pub side_types : All (λ r. RawTypesNestWithin deepest_type r.left × RawTypesNestWithin deepest_type r.right) p.rules

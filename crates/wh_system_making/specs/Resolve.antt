@@ -1,4 +1,4 @@
--- What raw terms stand for over a system.
+-- The term or type that a raw one stands for over the names of a system, if there is one.
 use Rattle.std.specs.Prelude.{◌≡◌, [], Option, Some, MatchOption}
 use Rattle.wh_terms.specs.Tree.{Tm}
 use Rattle.wh_terms.specs.Typing.{WellTyped}

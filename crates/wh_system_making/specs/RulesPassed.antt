@@ -1,4 +1,4 @@
--- What parts that pass all tests are resolved to (ours).
+-- The rules and tables to which parts are resolved that pass all tests (ours).
 use Rattle.std.specs.Prelude.{ℕ, ◌≡◌, Option, Some, length, map, slice_get}
 use Rattle.wh_types.specs.Erase.{tys}
 use Rattle.wh_terms.specs.Erase.{rewrite_rules}

@@ -1,4 +1,4 @@
--- That parts say a system.
+-- `Says`: the parts of a text say this system.
 use Rattle.std.specs.Prelude.{◌≡◌, List, [], ◌∷◌, Some, length, map}
 use Rattle.wh_terms.specs.Rules.{RewriteRule}
 use Rattle.wh_system_parts.specs.Parts.{RParts, RRule}

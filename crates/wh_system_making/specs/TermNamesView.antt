@@ -1,4 +1,4 @@
--- What a `TermNames` stands for.
+-- The names that a `TermNames` of the program holds.
 use Rattle.wh_system_making.specs.declared.raw_trees.TermNames.{TermNames}
 use Rattle.wh_system.specs.Canonical.{Names}
 

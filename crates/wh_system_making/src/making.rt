@@ -1,4 +1,4 @@
-//! The system of a text.
+//! Making a system of the parts of a text: `system_of` runs all tests in their order, and answers the first fault.
 
 ghost use Rattle.std.specs.Prelude.{◌≡◌, Some, None, IfOk};
 ghost use Rattle.wh_types.specs.Outcome.{IfBecause};

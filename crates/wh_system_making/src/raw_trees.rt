@@ -23,11 +23,11 @@ use wh_types::{SimpleType, sum};
 /// The names of what may stand in a term, by number.
 #[derive(Drop)]
 pub struct TermNames<'a> {
-    /// Those of the sorts.
+    /// The names of the sorts.
     pub sorts: &'a [Name],
-    /// Those of the symbols.
+    /// The names of the symbols.
     pub funs: &'a [Name],
-    /// Those of the meta-variables.
+    /// The names of the meta-variables.
     pub metas: &'a [Name],
 }
 
@@ -54,7 +54,7 @@ fn raw_with(alloc: Global, names: &TermNames, term: &Term) -> Result<RawTerm, Al
     raw_under(alloc, names, term, 0)
 }
 
-// The same below `depth` binders.
+// The canonical raw tree of a part of a term below `depth` binders.
 #[cycle(raw_under)]
 fn raw_under(
     alloc: Global,
@@ -92,7 +92,7 @@ fn raw_under(
     }
 }
 
-// The same for each of the arguments of a meta-variable.
+// The canonical raw trees of the arguments of a meta-variable below `depth` binders.
 #[cycle(raw_under)]
 fn raw_each(
     alloc: Global,
@@ -168,7 +168,7 @@ fn push_arguments(
     Ok(())
 }
 
-// The same name.
+// A copy of the name.
 fn copy_of(alloc: Global, name: &Name) -> Result<Name, AllocError>
     ensures { IfOk result (λ copy. copy ≡ name.now) }
 {

@@ -25,7 +25,7 @@ pub struct NameTables {
 }
 
 impl NameTables {
-    /// Those of the system.
+    /// The tables of the names of the system's sorts and symbols.
     pub fn of(alloc: Global, system: &System) -> Result<NameTables, AllocError>
         ensures { IfOk result (AreTablesOf (system_data system.now)) }
     {

@@ -1,4 +1,4 @@
--- The tests of declarations one by one (ours).
+-- The tests of declarations: of sorts, symbols and meta-variables one by one, and of their numbers (ours).
 use Rattle.std.specs.Prelude.{ℕ, ◌||◌, List, ◌∷◌, ◌++◌, map}
 use Rattle.wh_types.specs.Limits.{most_sorts, most_symbols, most_rules, most_metas}
 use Rattle.wh_system_parts.specs.Parts.{RName, RFun, RMeta, RRule}

@@ -1,4 +1,4 @@
--- What parts stand for: without pointers.
+-- The parts of a system text as trees: what a value of the program stands for, without pointers.
 use Rattle.std.specs.Prelude.{map}
 use Rattle.wh_text.specs.Erase.{rty, rtys, rtm}
 use Rattle.wh_system_parts.specs.Parts.{RName, RFun, RMeta, RRule, RParts}

@@ -1,4 +1,4 @@
--- Tests in their order, and the first that fails.
+-- Lists of tests in their order, and the first test that fails.
 use Rattle.std.specs.Prelude.{◌≡◌, Bool, true, false, List, [], ◌∷◌, Option, Some, None, Result, MatchResult}
 use Rattle.wh_types.specs.Outcome.{MatchOr}
 use Rattle.wh_types.specs.declared.want.Or.{Or}
@@ -9,7 +9,7 @@ pub record Test : Type 0 where
   pub fails : Bool
   pub fault : SystemFault
 
--- the fault where it fails, and else what comes after it
+-- the fault where the test fails, and else the rest
 abbrev pub first_of : Bool → SystemFault → Option SystemFault → Option SystemFault
 first_of true fault rest = Some fault
 first_of false fault rest = rest

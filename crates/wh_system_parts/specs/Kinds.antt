@@ -35,7 +35,7 @@ abbrev pub where_true : Bool → Option Ty → Option Ty
 where_true true a = a
 where_true false a = None
 
--- as many types as are wanted, and each is the one wanted
+-- there are as many types as wanted ones, and each is the wanted one at its place
 abbrev pub are_wanted : List (Option Ty) → List Ty → Bool
 are_wanted [] [] = true
 are_wanted (Some a ∷ given) (b ∷ wanted) = same_ty a b && are_wanted given wanted

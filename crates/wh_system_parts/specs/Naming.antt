@@ -1,4 +1,4 @@
--- What names stand for.
+-- What a name in a side stands for: a binder, a meta-variable or a symbol; and the number of a name in a table.
 use Rattle.std.specs.Prelude.{ℕ, ◌==◌, Bool, false, List, [], ◌∷◌, Option, Some, None, option_and_then, option_map, position, is_some}
 use Rattle.std.specs.Str.{bytes_eq}
 use Rattle.wh_types.specs.Ty.{Ty, sort, ◌⇒◌}

@@ -45,7 +45,7 @@ abbrev mutual
   width_of_types k no_types = []
   width_of_types k (more_types a rest) = test (k == most_arguments) (TooMany (type_offset a)) ∷ (width_of_type a ++ width_of_types (k + 1) rest)
 
--- the same for types in brackets: their number, and then each
+-- the tests of types in brackets: first their number, and then each type
 abbrev pub count_of_types : ℕ → RTys → List Test
 count_of_types k no_types = []
 count_of_types k (more_types a rest) = test (k == most_arguments) (TooMany (type_offset a)) ∷ count_of_types (k + 1) rest

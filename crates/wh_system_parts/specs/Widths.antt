@@ -12,7 +12,7 @@ abbrev pub HasSpare : RTm → Result ℕ SystemFault → Type 0
 HasSpare t result = MatchResult result (λ left. (first_fault (width_of_term t) ≡ None) × (left + arguments_of t ≡ most_arguments))
     (λ fault. first_fault (width_of_term t) ≡ Some fault)
 
--- the same of arguments, of which room many may still come
+-- what the walk over some arguments answers, where `room` more arguments fit in their spine
 abbrev pub LeavesRoom : ℕ → RTms → Result ℕ SystemFault → Type 0
 LeavesRoom room ts result =
     MatchResult result (λ left. (first_fault (width_of_arguments (most_arguments - room) ts) ≡ None) × (left + count_of ts ≡ room))

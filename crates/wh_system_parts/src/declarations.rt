@@ -1,4 +1,4 @@
-//! The declarations of a system: its sorts, its symbols, and their numbers.
+//! The declarations of a system: the tests of its sorts and symbols, and the tables that number them.
 
 ghost use Rattle.std.specs.Prelude.{◌≡◌, ◌<◌, ◌++◌, [], ◌∷◌, Some, OnOk, length, map};
 ghost use Rattle.wh_text.specs.Erase.{rty};
@@ -30,9 +30,9 @@ const MOST_RULES: usize = 1024;
 /// The symbols of a system by their numbers.
 #[derive(Drop)]
 pub struct Funs {
-    /// Their names.
+    /// The names of the symbols.
     pub names: NameTable,
-    /// Their types.
+    /// The types of the symbols.
     pub kinds: Types,
 }
 

@@ -1,4 +1,4 @@
-//! Why parts are no system.
+//! The faults of parts: why they are no system, each with the offset where the trouble stands.
 
 use thiserror::Error;
 use wh_types::Or;

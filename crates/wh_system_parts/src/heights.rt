@@ -6,7 +6,7 @@ ghost use Rattle.wh_system_parts.specs.Tests.{raw_height, raw_heights};
 
 use wh_text::{RawTerm, RawTerms};
 
-/// Something where the side is at most `low` high.
+/// `Some(())` where the side is at most `low` high, else `None`.
 #[cycle(heights)]
 pub fn keep_low(side: &RawTerm, low: u32) -> Option<()>
     ensures { MatchOption result (low < raw_height (rtm side.now)) (λ _. raw_height (rtm side.now) ≤ low) }
@@ -28,7 +28,7 @@ pub fn keep_low(side: &RawTerm, low: u32) -> Option<()>
     }
 }
 
-// The same of terms, one after another.
+// `Some(())` where each of the terms is at most `low` high, else `None`.
 #[cycle(heights)]
 #[tactic(auto, using(crate::proofs::RawTerms::left_next, crate::proofs::RawTerms::left_none))]
 fn keep_all_low(items: &RawTerms, low: u32) -> Option<()>

@@ -1,4 +1,4 @@
-//! The limits of a rule's side.
+//! The limits of a rule's side, tested in one call: width, height and size.
 
 ghost use Rattle.wh_text.specs.Erase.{rtm};
 ghost use Rattle.wh_system_parts.specs.Faults.{IsFirstFault};

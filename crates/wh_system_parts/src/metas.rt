@@ -1,4 +1,4 @@
-//! The meta-variables of a rule.
+//! The meta-variables of a rule: the tests of their declarations, and the table that numbers them.
 
 ghost use Rattle.std.specs.Prelude.{◌≡◌, ◌<◌, ◌++◌, ◌||◌, [], ◌∷◌, OnOk, length, map};
 ghost use Rattle.wh_text.specs.Erase.{rtys};
@@ -25,9 +25,9 @@ use wh_types::Or;
 /// The meta-variables of a rule by their numbers.
 #[derive(Drop)]
 pub struct RuleMetas {
-    /// Their names.
+    /// The names of the meta-variables.
     pub names: NameTable,
-    /// Their declarations.
+    /// The declarations of the meta-variables.
     pub declared: Metas,
 }
 

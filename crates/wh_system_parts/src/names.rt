@@ -1,4 +1,4 @@
-//! Names by number.
+//! Tables of names: a table numbers names in the order in which they came, and finds the number of a name.
 
 ghost use Rattle.std.specs.Prelude.{◌≡◌, ◌<◌, ◌++◌, [], ◌∷◌, IfOk, OnErr, MatchBool, true, false, length};
 ghost use Rattle.wh_system_parts.specs.Naming.{is_declared, number_of};

@@ -1,4 +1,4 @@
-//! Where terms begin in a text.
+//! The offset of a term in its text, by which a fault is placed.
 
 ghost use Rattle.std.specs.Prelude.{◌≡◌};
 ghost use Rattle.wh_system_parts.specs.Tests.{term_offset};

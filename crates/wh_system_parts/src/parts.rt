@@ -1,4 +1,4 @@
-//! What a system text says, before its names are looked up.
+//! The parts of a system text: its declarations and rules, before their names are looked up. A reader makes them.
 
 use wh_text::{Name, RawTerm, RawType, RawTypes};
 use wh_types::List;
@@ -15,20 +15,20 @@ pub struct RawName {
 /// A declared symbol.
 #[derive(Drop)]
 pub struct RawFun {
-    /// Its name.
+    /// The name of the symbol.
     pub name: RawName,
-    /// Its type.
+    /// The type of the symbol.
     pub kind: RawType,
 }
 
 /// A declared meta-variable of a rule.
 #[derive(Drop)]
 pub struct RawMeta {
-    /// Its name.
+    /// The name of the meta-variable.
     pub name: RawName,
-    /// The types in its brackets.
+    /// The types in its brackets, which are those of its arguments.
     pub args: RawTypes,
-    /// The type behind them.
+    /// The type behind the brackets, which its applications have.
     pub result: RawType,
 }
 
@@ -44,13 +44,13 @@ pub type RawMetas = List<RawMeta>;
 /// A rule.
 #[derive(Drop)]
 pub struct RawRule {
-    /// Its meta-variables, in order.
+    /// The meta-variables of the rule, in order.
     pub metas: RawMetas,
     /// The left side.
     pub left: RawTerm,
     /// The right side.
     pub right: RawTerm,
-    /// The offset of its keyword.
+    /// The offset of the keyword `rule`.
     pub at: u32,
 }
 

@@ -6,7 +6,7 @@ ghost use Rattle.wh_system_parts.specs.Tests.{raw_height, raw_heights, raw_size,
 
 use wh_text::{RawTerm, RawTerms};
 
-/// What is left of the size `room` beyond the side, if that is enough.
+/// What is left of the size `room` behind the side, if the side is within it.
 #[cycle(sizes)]
 #[tactic(auto, using(wh_text::proofs::RawLemmas::rtm_of_meta, wh_text::proofs::RawLemmas::rtm_of_spine))]
 pub fn spend(side: &RawTerm, room: u32) -> Option<u32>
@@ -22,7 +22,7 @@ pub fn spend(side: &RawTerm, room: u32) -> Option<u32>
     }
 }
 
-// The same of terms, one after another.
+// What is left of the size `room` behind the terms, if all of them together are within it.
 #[cycle(sizes)]
 #[tactic(auto, using(crate::proofs::RawTerms::left_next, crate::proofs::RawTerms::left_none))]
 fn spend_each(items: &RawTerms, room: u32) -> Option<u32>
@@ -35,7 +35,8 @@ fn spend_each(items: &RawTerms, room: u32) -> Option<u32>
     Some(left)
 }
 
-// The same of the arguments of a spine, each with the application that it makes.
+// What is left of the size `room` behind the arguments of a spine, each with the application that it makes, if all of
+// them together are within it.
 #[cycle(sizes)]
 #[tactic(auto, using(crate::proofs::RawTerms::left_next, crate::proofs::RawTerms::left_none))]
 fn spend_arguments(items: &RawTerms, room: u32) -> Option<u32>

@@ -49,7 +49,8 @@ fn spare(side: &RawTerm) -> Result<u32, SystemFault>
     }
 }
 
-// The same of terms, one after another.
+// Whether no spine, and no type, in any of the terms has more than 32 arguments; the fault is at the first argument
+// past them.
 #[cycle(widths)]
 #[tactic(auto, using(crate::proofs::FaultLemmas::first_fault_append, crate::proofs::RawTerms::left_next, crate::proofs::RawTerms::left_none))]
 fn check_each_width(items: &RawTerms) -> Result<(), SystemFault>
@@ -61,7 +62,8 @@ fn check_each_width(items: &RawTerms) -> Result<(), SystemFault>
     Ok(())
 }
 
-// What is left of the room of a spine behind these arguments; the fault is at the first argument past it.
+// How many arguments more the spine may have behind these, of `room` before them; the fault is at the first argument
+// past the limit.
 #[cycle(widths)]
 fn check_arguments(items: &RawTerms, room: u32) -> Result<u32, SystemFault>
     ensures { room ≤ most_arguments → LeavesRoom room (rtms items.now) result }

@@ -1,4 +1,4 @@
--- Pairs in which all has a name.
+-- Named pairs: all their symbols, sorts and meta-variables have a name.
 use Rattle.std.specs.Prelude.{◌<◌, ◌≤◌, [], length, get_or, All}
 use Rattle.wh_system.specs.Systems.{SystemData}
 use Rattle.wh_system.specs.Canonical.{IsNamedBelow}

@@ -12,7 +12,7 @@ use Rattle.wh_pairs.specs.PairData.{PairData, Within}
 abbrev pub fresh_name : ℕ → List ℕ
 fresh_name k = codes "?" ++ decimal k
 
--- so many of them, from number k on
+-- the names of n fresh meta-variables, from number k on
 abbrev pub fresh_names : ℕ → ℕ → List (List ℕ)
 fresh_names k zero = []
 fresh_names k (suc n) = fresh_name k ∷ fresh_names (k + 1) n

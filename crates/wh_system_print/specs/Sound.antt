@@ -15,7 +15,7 @@ abbrev mutual
   IsSpelledPart j (raw_type no_types sort at) = IsName sort
   IsSpelledPart j (raw_type (more_types a rest) sort at) = (j < deepest_type) × IsSpelledPart (j + 1) a × AreSpelledParts (j + 1) rest × IsName sort
 
-  -- each of them
+  -- each of the types is a spelled part
   pub AreSpelledParts : ℕ → RTys → Type 0
   AreSpelledParts j no_types = Unit {0}
   AreSpelledParts j (more_types a rest) = IsSpelledPart j a × AreSpelledParts j rest
@@ -40,7 +40,7 @@ abbrev mutual
   IsSpelledTerm k (spine h (more t ts) at) = (k < deepest_term) × IsNoSpine h × IsSpelledTerm (k + 1) h × IsSpelledTerm (k + 1) t
       × AreSpelledTerms (k + 1) ts
 
-  -- each of them
+  -- each of the terms is a spelled one
   pub AreSpelledTerms : ℕ → RTms → Type 0
   AreSpelledTerms k none = Unit {0}
   AreSpelledTerms k (more t ts) = IsSpelledTerm k t × AreSpelledTerms k ts

@@ -1,4 +1,4 @@
-//! The lines of sorts and symbols, and what stands in the braces of a rule.
+//! Printing the lines of sorts and symbols, and the braces of a rule.
 
 ghost use Rattle.std.specs.Prelude.{◌≡◌, ◌<◌, OnOk, All, length, drop};
 ghost use Rattle.wh_types.specs.Ty.{SortsBelow};

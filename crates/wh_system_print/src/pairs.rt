@@ -1,4 +1,4 @@
-//! The text of dependency pairs.
+//! Printing dependency pairs, as `show` lists them behind the system.
 
 ghost use Rattle.std.specs.Prelude.{◌≡◌, ◌<◌, ◌∷◌, IfOk, OnOk, All, Contains, length, map};
 ghost use Rattle.wh_terms.specs.Erase.{tm};

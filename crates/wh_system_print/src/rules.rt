@@ -1,4 +1,4 @@
-//! The lines of rules.
+//! Printing the lines of rules.
 
 ghost use Rattle.std.specs.Prelude.{◌≡◌, OnOk, Some, slice_get};
 ghost use Rattle.wh_terms.specs.Erase.{rewrite_rule};

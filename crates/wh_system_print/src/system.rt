@@ -1,4 +1,4 @@
-//! The text of a system.
+//! Printing a whole system: `print_system` gives its canonical text.
 
 ghost use Rattle.std.specs.Prelude.{◌≡◌, IfOk};
 ghost use Rattle.wh_system.specs.SystemView.{system_data};

@@ -21,7 +21,7 @@ use wh_terms::{Term, Terms};
 use wh_text::{Name, print_number};
 use wh_types::{Bytes, SimpleType, sum};
 
-/// Appends a term below so many binders.
+/// Appends a term below `depth` binders.
 #[cycle(print_tree)]
 pub fn print_tree(
     out: &mut Bytes,

@@ -39,7 +39,7 @@ TellsNew flags t r result =
     (s : Scope) (left : RTm) (bs : List Binder) → AreMarked s left flags → meant s bs r ≡ Some t
     → IsFirstFault (new_meta_tests s left bs r) result
 
--- the same of raw terms one after another
+-- what an answer about raw terms, one after another, tells of their meta-variables
 abbrev pub TellsNewEach : List Bool → Tms → RTms → Result (Unit {0}) SystemFault → Type 0
 TellsNewEach flags us ts result =
     (s : Scope) (left : RTm) (bs : List Binder) → AreMarked s left flags → all_meant s bs ts ≡ Some us

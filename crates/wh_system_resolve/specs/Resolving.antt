@@ -1,4 +1,5 @@
--- What the walk over a side resolves, part by part (ours).
+-- The answers of the walk that resolves a side, part by part: a term with its type, or the first test that fails
+-- (ours).
 use Rattle.std.specs.Prelude.{◌==◌, ◌≡◌, ℕ, not, List, [], ◌∷◌, Option, Some, None, Result, map, option_map}
 use Rattle.wh_types.specs.Ty.{Ty, same_ty}
 use Rattle.wh_types.specs.Outcome.{MatchOr}

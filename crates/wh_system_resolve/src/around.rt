@@ -1,4 +1,4 @@
-//! What the walk over a side passes on.
+//! The state of the walk over a side: the binders that it has passed, and the terms that it has resolved.
 
 use crate::kind::Kind;
 use wh_terms::{Term, Terms};
@@ -14,20 +14,20 @@ pub struct Around<'a> {
     pub kind: SimpleType,
 }
 
-/// What a raw term stands for, and its type.
+/// A resolved term: the term that a raw term stands for, and its type.
 #[derive(Drop)]
 pub struct Resolved<'a> {
     /// The term.
     pub term: Term,
-    /// Its type.
+    /// The type of the term.
     pub kind: Kind<'a>,
 }
 
-/// What raw terms stand for, one after another, and their types.
+/// Resolved terms: those that raw terms stand for, one after another, and their types.
 #[derive(Drop)]
 pub struct ResolvedList<'a> {
     /// The terms.
     pub trees: Terms,
-    /// Their types.
+    /// The types of the terms.
     pub kinds: List<Kind<'a>>,
 }

@@ -34,7 +34,8 @@ pub fn check_pattern(alloc: Global, left: &Term, raw: &RawTerm) -> Result<(), Or
     check_form(alloc, left, raw)
 }
 
-// The same below any binders.
+// Whether each part of a left side has the form of a pattern's, where the term stands below any binders; the fault is
+// at the first part that has not.
 #[cycle(form)]
 fn check_form(alloc: Global, term: &Term, raw: &RawTerm) -> Result<(), Or<SystemFault>>
     ensures { TellsForm (tm term.now) (rtm raw.now) result }
@@ -61,7 +62,8 @@ fn check_form(alloc: Global, term: &Term, raw: &RawTerm) -> Result<(), Or<System
     }
 }
 
-// The same of a head that is applied to the items, which stands at `at`: the last item is the argument of the term.
+// Whether a head with the items as its arguments has the form of a pattern's. The head stands at `at`, and the last
+// item is the argument of the application that the term is.
 #[cycle(form)]
 fn check_applied(
     alloc: Global,

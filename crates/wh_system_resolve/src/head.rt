@@ -1,4 +1,4 @@
-//! The head of a left side, and how many arguments it has.
+//! The head of a left side, which must be a symbol, and how many arguments the left side has.
 
 ghost use Rattle.std.specs.Prelude.{◌≡◌, ◌≤◌, [], Some, None, MatchResult};
 ghost use Rattle.wh_types.specs.Limits.{greatest_size};

@@ -1,4 +1,4 @@
-//! Types of parts, which are copied only where they must be.
+//! Types of parts of a side. They are borrowed where they stand elsewhere, and copied only where they must be.
 
 ghost use Rattle.std.specs.Prelude.{◌≡◌, Some, IfOk, IfSome, is_some};
 ghost use Rattle.wh_types.specs.Erase.{ty};
@@ -18,7 +18,7 @@ pub enum Kind<'a> {
 }
 
 impl<'a> Kind<'a> {
-    /// The type.
+    /// The type of the part, borrowed.
     pub fn as_type(&self) -> &SimpleType
         ensures { ty result.now ≡ type_of self.now }
     {

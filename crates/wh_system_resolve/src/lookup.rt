@@ -1,4 +1,4 @@
-//! The binders around a place, by name and by number.
+//! The binders around a place of a side, looked up by name and by number.
 
 ghost use Rattle.std.specs.Prelude.{◌≡◌, ◌<◌, ℕ, Some, None, [], length, map, slice_index_or};
 ghost use Rattle.wh_terms.specs.Tree.{bound};

@@ -1,6 +1,6 @@
-//! The meta-variables of a right side: each occurs in the left side. One walk over the term that the left side stands
-//! for marks what occurs there. One over that of the right side looks at the marks; beside it the raw right side tells
-//! where a fault is.
+//! The meta-variables of a right side: each occurs in the left side. `check_new_metas` marks what occurs in the term
+//! that the left side stands for, and then looks at the marks in a walk over the right side's term. Beside that walk
+//! goes the raw right side, which tells where a fault is.
 
 ghost use Rattle.std.specs.Prelude.{◌≡◌, ◌<◌, ◌≤◌, ◌∷◌, ◌==◌, ℕ, [], Some, false, IfOk, length, slice_index_or};
 ghost use Rattle.wh_terms.specs.Erase.{tm, tms};
@@ -67,7 +67,7 @@ fn mark_term(term: &Term, marks: &mut [bool])
     }
 }
 
-// The same of terms, one after another.
+// Marks the meta-variables that occur in any of the terms.
 #[cycle(marking)]
 fn mark_each(items: &Terms, marks: &mut [bool])
     ensures { Marks marks.old marks.new (λ z. occurs_in_any z (tms items.now)) }
@@ -115,7 +115,8 @@ fn check_marked(marks: &[bool], term: &Term, raw: &RawTerm) -> Result<(), System
     }
 }
 
-// The same of a head that is applied to the items: the last one is the argument of the term.
+// Whether each meta-variable of a head with the items as its arguments is marked; the last item is the argument of the
+// application that the term is.
 #[cycle(marked)]
 fn check_applied_marked(
     marks: &[bool],
@@ -135,7 +136,7 @@ fn check_applied_marked(
     check_marked(marks, argument, last)
 }
 
-// The same of raw terms one after another, which stand for the terms.
+// Whether each meta-variable of the terms is marked; the raw items, one for each, tell where a fault is.
 #[cycle(marked)]
 fn check_each_marked(marks: &[bool], terms: &[Term], items: &[RawTerm]) -> Result<(), SystemFault>
     ensures { TellsNewEach marks.now (tms terms.now) (rtms items.now) result }

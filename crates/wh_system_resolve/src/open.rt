@@ -1,4 +1,4 @@
-//! The free variables of a side: it has none.
+//! The test that a side has no free variable.
 
 ghost use Rattle.wh_text.specs.Erase.{rtm, rtms};
 ghost use Rattle.wh_system_parts.specs.Faults.{IsFirstFault};
@@ -25,7 +25,7 @@ pub fn check_open(side: &RawTerm) -> Result<(), SystemFault>
     }
 }
 
-// The same of terms, one after another.
+// Whether none of the terms has a free variable; the fault is at the first one.
 #[cycle(open)]
 #[tactic(auto, using(wh_system_parts::proofs::FaultLemmas::first_fault_append, wh_system_parts::proofs::RawTerms::left_next, wh_system_parts::proofs::RawTerms::left_none))]
 fn check_open_each(items: &RawTerms) -> Result<(), SystemFault>

@@ -6,7 +6,7 @@ ghost use Rattle.wh_system_resolve.specs.Form.{arguments_in};
 
 use wh_terms::Term;
 
-/// The arguments of a meta-variable; `None` where the term is none.
+/// The arguments of a meta-variable; `None` where the term is no meta-variable.
 pub fn meta_arguments(term: &Term) -> Option<&[Term]>
     ensures { option_map (λ items. tms items.now) result ≡ arguments_in (tm term.now) }
 {

@@ -44,7 +44,8 @@ pub fn resolve_side(
     Ok((term, kind.into_type(alloc)?))
 }
 
-// The same below the binders passed, the innermost last.
+// The term that a part of a side stands for, and its type, below the binders in `passed`, of which the innermost is the
+// last.
 #[cycle(resolve)]
 fn resolve_under<'a, 'b>(
     alloc: Global,
@@ -78,7 +79,8 @@ fn resolve_under<'a, 'b>(
     }
 }
 
-// The same below one binder more, whose variable has the type `kind`.
+// The term that the body of an abstraction stands for, and its type, below one binder more, whose variable has the type
+// `kind`.
 #[cycle(resolve)]
 fn resolve_below<'a, 'b>(
     alloc: Global,
@@ -98,7 +100,7 @@ fn resolve_below<'a, 'b>(
     Ok(answer)
 }
 
-// The same of terms one after another.
+// The terms that raw terms stand for, one after another, and their types.
 #[cycle(resolve)]
 fn resolve_each<'a, 'b>(
     alloc: Global,

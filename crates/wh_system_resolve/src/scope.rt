@@ -1,4 +1,4 @@
-//! What the names in a rule's sides may stand for.
+//! The scope of a rule's sides: the tables in which their names are looked up.
 
 ghost use Rattle.std.specs.Prelude.{◌≡◌, length};
 

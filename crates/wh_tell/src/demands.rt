@@ -1,4 +1,4 @@
-//! Which sorts have which ranks, and why: what rules take out of their arguments demands that ranks rise.
+//! Why each sort has its rank: where a rule takes an argument out of another one, ranks are demanded to rise.
 
 use crate::names::{names_of_rule, names_of_system, number_of};
 use crate::sentence::Piece::{Named, Number, Say, Unknown};
@@ -10,7 +10,7 @@ use wh_system::System;
 use wh_terms::{Rule, Signature, Term};
 use wh_types::SimpleType;
 
-/// That the rank of a sort is to be at most that of another one, or below it.
+/// A demand: the rank of a sort is to be at most the rank of another one, or below it.
 #[derive(Clone, Copy)]
 struct Demand {
     from: u32,
@@ -100,7 +100,7 @@ fn demands_of(alloc: Global, system: &System) -> Result<Vec<Demand>, AllocError>
     Ok(demands)
 }
 
-// Adds what is asked by what the rule uses on the right.
+// Adds the demands for each meta-variable that the rule uses on the right.
 fn ask_rule(
     alloc: Global,
     signature: &Signature,
@@ -116,8 +116,8 @@ fn ask_rule(
     Ok(())
 }
 
-// Adds what is asked on the way to the first place of the meta-variable in a left side, whose own arguments ask
-// for nothing.
+// Adds the demands on the way to the first place of the meta-variable in a left side. The left side's own arguments
+// demand nothing.
 fn ask_left(
     alloc: Global,
     signature: &Signature,
@@ -135,7 +135,7 @@ fn ask_left(
     Ok(())
 }
 
-// The same in a pattern; false where the meta-variable is not read in it.
+// Adds the demands on the way to the meta-variable in a pattern; false where the meta-variable is not read in it.
 fn ask_in(
     signature: &Signature,
     demands: &mut Vec<Demand>,

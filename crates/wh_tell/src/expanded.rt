@@ -1,4 +1,4 @@
-//! The spelling of an argument as an abstraction: an eta step backwards.
+//! Spelling an argument as an abstraction, as a rule wants it: an eta step backwards.
 
 use crate::names::Names;
 use crate::sentence::Piece::Number;
@@ -44,7 +44,7 @@ pub fn put_expanded(
     put_ends(text, wanted.binders);
 }
 
-// Appends the beginnings of so many abstractions.
+// Appends the beginnings of `count` abstractions.
 fn put_binders(text: &mut Text, names: &Names<'_>, kind: &SimpleType, count: u32, depth: u32) {
     for number in 0..count {
         put_binder(text, names, kind, number, depth);
@@ -58,7 +58,7 @@ fn put_variables(text: &mut Text, first: u32, count: u32, depth: u32) {
     }
 }
 
-// Appends the ends of so many abstractions.
+// Appends the ends of `count` abstractions.
 fn put_ends(text: &mut Text, count: u32) {
     for _ in 0..count {
         text.say(")");

@@ -43,7 +43,7 @@ struct Place<'a> {
     wanted: &'a [Wanted],
 }
 
-// Looks for arguments that no rule can match, in a term below so many binders.
+// Looks for arguments that no rule can match, in a term below `depth` binders.
 #[cycle(lints)]
 fn lint_term(text: &mut Text, place: &Place<'_>, term: &Term, depth: u32) {
     lint_spine(text, place, term, depth);
@@ -58,7 +58,7 @@ fn lint_term(text: &mut Text, place: &Place<'_>, term: &Term, depth: u32) {
     }
 }
 
-// The same of the terms of a list.
+// Looks for arguments that no rule can match, in each term of a list below `depth` binders.
 #[cycle(lints)]
 fn lint_list(text: &mut Text, place: &Place<'_>, items: &Terms, depth: u32) {
     for item in items.as_slice() {
@@ -66,7 +66,7 @@ fn lint_list(text: &mut Text, place: &Place<'_>, items: &Terms, depth: u32) {
     }
 }
 
-// Looks at the last argument of a spine: each argument is the last one of a front part of the spine.
+// Looks at the last argument of a spine. Each argument of a spine is the last one of a beginning of it.
 fn lint_spine(text: &mut Text, place: &Place<'_>, term: &Term, depth: u32) {
     let Term::App(_, argument) = term else {
         return;
@@ -109,7 +109,7 @@ fn put_mismatch(text: &mut Text, place: &Place<'_>, wanted: &Wanted, argument: &
     put_expanded(text, place.system, names, wanted, argument, depth);
 }
 
-// What is said of how many variables the abstraction is to have.
+// The words about how many variables the abstraction is to have.
 fn extent(wanted: &Wanted) -> &'static str {
     if wanted.binders > 1 {
         " of several variables"
@@ -118,7 +118,7 @@ fn extent(wanted: &Wanted) -> &'static str {
     }
 }
 
-// What is said of the rules at an argument that is no abstraction.
+// The words about the rules at an argument that is no abstraction.
 fn consequence(argument: &Term) -> &'static str {
     match argument {
         Term::Meta(..) | Term::Bound(_) => "they apply only where an abstraction comes for it.",

@@ -43,15 +43,15 @@ pub fn put_marked(text: &mut Text, names: &Names<'_>, term: &Term, path: &[u8], 
     text.say("\n");
 }
 
-// Appends the words so many times.
+// Appends the words `count` times.
 fn put_times(text: &mut Text, words: &str, count: usize) {
     for _ in 0..count {
         text.say(words);
     }
 }
 
-/// How a term stands: below so many binders, bare where its spine has no parentheses, and with the path to the
-/// part from there.
+/// The place of a term that is written: below how many binders it stands, whether its spine is bare, that is without
+/// parentheses, and the path from it to the marked part.
 #[derive(Clone, Copy)]
 struct Place<'a> {
     depth: u32,
@@ -60,7 +60,7 @@ struct Place<'a> {
 }
 
 impl<'a> Place<'a> {
-    // That of the body of an abstraction.
+    // The place of the body of an abstraction.
     fn body(self) -> Place<'a> {
         Place {
             depth: self.depth.saturating_add(1),
@@ -69,7 +69,7 @@ impl<'a> Place<'a> {
         }
     }
 
-    // That of a function.
+    // The place of a function.
     fn function(self) -> Place<'a> {
         Place {
             depth: self.depth,
@@ -78,7 +78,7 @@ impl<'a> Place<'a> {
         }
     }
 
-    // That of an argument.
+    // The place of an argument.
     fn argument(self) -> Place<'a> {
         Place {
             depth: self.depth,

@@ -7,11 +7,11 @@ use wh_text::Name;
 /// The names that are spelled in a term.
 #[derive(Clone, Copy)]
 pub struct Names<'a> {
-    /// Those of the sorts.
+    /// The names of the sorts.
     pub sorts: &'a [Name],
-    /// Those of the symbols.
+    /// The names of the symbols.
     pub funs: &'a [Name],
-    /// Those of the meta-variables of a rule, which come before the fresh ones.
+    /// The names of the meta-variables of a rule, which come before the fresh ones.
     pub metas: &'a [Name],
 }
 
@@ -39,8 +39,8 @@ pub fn names_of_system<'a>(system: &'a System) -> Names<'a> {
     }
 }
 
-/// A count, or a place in a list, as a number of 32 bits. One beyond these, for which memory has no room, becomes the
-/// greatest.
+/// A count, or a place in a list, as a number of 32 bits. A greater one, for which memory has no room, becomes the
+/// greatest of them.
 pub fn number_of(count: usize) -> u32 {
     u32::try_from(count).unwrap_or(u32::MAX)
 }

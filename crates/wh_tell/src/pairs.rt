@@ -1,4 +1,4 @@
-//! Dependency pairs and rules in words.
+//! Dependency pairs and rules, in words.
 
 use crate::names::{Names, names_of_rule, put_meta, put_name};
 use crate::sentence::Piece::{Number, Tree};

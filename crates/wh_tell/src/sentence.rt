@@ -1,4 +1,4 @@
-//! Sentences of pieces.
+//! Sentences: words in which each `@` stands for a piece.
 
 use crate::names::{Names, put_meta, put_name};
 use crate::polys::put_poly;
@@ -46,7 +46,7 @@ pub fn tell(text: &mut Text, words: &str, pieces: &[Piece<'_>]) {
     }
 }
 
-/// The same in a line of its own, behind so many steps of indentation.
+/// Appends the words with their pieces as a line of its own, behind `depth` steps of indentation.
 pub fn tell_line(text: &mut Text, depth: u32, words: &str, pieces: &[Piece<'_>]) {
     text.indent(depth);
     tell(text, words, pieces);

@@ -1,4 +1,4 @@
-//! Heads and arguments of terms.
+//! Heads and arguments of terms, for sentences about them.
 
 use std::alloc::{AllocError, Global};
 use wh_terms::{Term, Terms};
@@ -44,8 +44,7 @@ pub fn count_arguments(term: &Term) -> u32 {
     count
 }
 
-/// How many abstractions the argument of that index, counted from 0, begins with; none where there are not so many
-/// arguments.
+/// How many abstractions the argument of that index, counted from 0, begins with; 0 where there is no such argument.
 pub fn binders_at(term: &Term, index: u32) -> u32 {
     let mut place = count_arguments(term);
     let mut count: u32 = 0;
@@ -71,7 +70,7 @@ pub fn binders_of(term: &Term) -> u32 {
     count
 }
 
-/// What stands behind these abstractions.
+/// The body behind these abstractions.
 pub fn body_of(term: &Term) -> &Term {
     let mut here = term;
     while let Term::Lam(_, body) = here {
@@ -80,7 +79,7 @@ pub fn body_of(term: &Term) -> &Term {
     here
 }
 
-/// The type of the argument of that index, counted from 0; `None` where there are not so many.
+/// The type of the argument of that index, counted from 0; `None` where the type has fewer arguments.
 pub fn argument_type(kind: &SimpleType, index: u32) -> Option<&SimpleType> {
     let mut left = index;
     let mut here = kind;
@@ -110,7 +109,7 @@ pub fn count_meta(meta: u32, term: &Term) -> u32 {
     }
 }
 
-// The same of the terms of a list.
+// How often the meta-variable occurs in the terms of a list.
 #[cycle(counting)]
 fn count_in(meta: u32, items: &Terms) -> u32 {
     let mut count: u32 = 0;
@@ -134,7 +133,7 @@ pub fn has_symbol(symbol: u32, term: &Term) -> bool {
     }
 }
 
-// The same of the terms of a list.
+// Whether the symbol stands in one of the terms of a list.
 #[cycle(finding)]
 fn symbol_in(symbol: u32, items: &Terms) -> bool {
     for item in items.as_slice() {

@@ -5,7 +5,7 @@ use crate::text::Text;
 use crate::types::put_type;
 use wh_terms::{Term, Terms};
 
-/// Appends a term below so many binders; a spine that is bare has no parentheses.
+/// Appends a term below `depth` binders; a spine that is bare has no parentheses.
 #[cycle(terms)]
 pub fn put_term(text: &mut Text, names: &Names<'_>, term: &Term, depth: u32, bare: bool) {
     match term {

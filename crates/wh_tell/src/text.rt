@@ -1,4 +1,4 @@
-//! The text that is built. Nothing is said of it by a clause.
+//! The text that explanations are appended to. No clause says what is in it.
 
 use std::alloc::{AllocError, Global};
 use wh_types::Bytes;
@@ -21,7 +21,7 @@ impl Text {
         }
     }
 
-    /// Its bytes, to be kept. The error is that memory was wanting for some piece.
+    /// The bytes of the text, to be kept. The error is that memory was wanting for some piece.
     pub fn into_bytes(self) -> Result<Bytes, AllocError> {
         let Text { bytes, cut } = self;
         if cut { Err(AllocError) } else { Ok(bytes) }

@@ -18,7 +18,7 @@ pub struct Wanted {
     pub binders: u32,
 }
 
-/// What is wanted as an abstraction by all rules of a symbol.
+/// The arguments that all rules of their symbols want as abstractions.
 pub fn wanted_abstractions(alloc: Global, system: &System) -> Result<Vec<Wanted>, AllocError> {
     let mut wanted = Vec::new(alloc);
     for symbol in 0..number_of(system.fun_names().len()) {
@@ -27,7 +27,7 @@ pub fn wanted_abstractions(alloc: Global, system: &System) -> Result<Vec<Wanted>
     Ok(wanted)
 }
 
-// Adds what is wanted as an abstraction by all rules of this symbol.
+// Adds the arguments that all rules of this symbol want as abstractions.
 fn add_wanted(system: &System, symbol: u32, wanted: &mut Vec<Wanted>) -> Result<(), AllocError> {
     for place in 0..system.need(symbol).unwrap_or(0) {
         let binders = binders_wanted(system.rules(), symbol, place);

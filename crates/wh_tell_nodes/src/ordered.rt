@@ -1,4 +1,4 @@
-//! Nodes of path orders: the sides of rules and pairs are filtered, and each inference is told.
+//! Nodes of path orders: the sides of rules and pairs are filtered, and each inference is put into words.
 
 ghost use Rattle.std.specs.Prelude.{◌<◌, All, Contains, IfOk, IsTrue, length, map};
 ghost use Rattle.wh_system.specs.SystemView.{system_data};
@@ -30,7 +30,7 @@ use wh_tell_parts::{Comparison, is_within, put_dropped, put_filters, put_inferre
 use wh_top_judging::Problem;
 use wh_types::{Or, is_in};
 
-// What is said of lines that don't name what they have to name.
+// The words about lines that don't name what they have to name.
 const NO_FILTERS: &str =
     "These lines don't name each symbol and each marked symbol of the pairs once, in order, so no sides are compared.";
 

@@ -135,7 +135,7 @@ fn open_node(
     }
 }
 
-// Puts what is left behind a drop list on top of the stack.
+// Puts the set of the pairs behind a drop list on top of the stack.
 fn open_rest(
     alloc: Global,
     drop: &[u32],

@@ -1,5 +1,5 @@
-//! Nodes of interpretations: the sides of rules and pairs are evaluated under the polynomials of the node, and
-//! each line is told.
+//! Nodes of interpretations: the sides of rules and pairs are evaluated under the polynomials of the node, and each
+//! line is put into words.
 
 ghost use Rattle.std.specs.Prelude.{◌≡◌, ◌<◌, ℕ, All, Contains, IfOk, IsTrue, Some, length, map, slice_get};
 ghost use Rattle.wh_system.specs.SystemView.{system_data};
@@ -31,14 +31,14 @@ use wh_tell_parts::{
 use wh_top_judging::Problem;
 use wh_types::{Or, is_in};
 
-// What is said of lines that don't name what they have to name.
+// The words about lines that don't name what they have to name.
 const NO_LIST: &str =
     "These are not the numbers of rules, each above the one before it, so sides are not told.";
 
 const NO_READINGS: &str =
     "These lines don't name each symbol and each marked symbol of the pairs once, in order, so sides have no values.";
 
-/// Appends what symbols are read as, what both sides of each rule and pair are worth, and which pairs are dropped.
+/// Appends the polynomials of symbols, the values of both sides of each rule and pair, and which pairs are dropped.
 pub fn put_interpretation(
     alloc: Global,
     text: &mut Text,

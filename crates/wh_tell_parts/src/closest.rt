@@ -1,5 +1,5 @@
-//! Which projection comes closest for pairs of which none was dropped: one that keeps or lowers the argument in
-//! as many of them as can be found by changing one argument at a time. Others may keep as many.
+//! The projection that comes closest, for pairs of which none was dropped. It keeps or lowers the argument in as many
+//! of them as can be found by changing one argument at a time. Others may keep as many.
 
 use crate::compared::put_compared;
 use std::alloc::{AllocError, Global};
@@ -32,7 +32,7 @@ pub fn put_closest_projection<'a>(
     Ok(())
 }
 
-// The first argument of each of so many symbols.
+// The first argument of each of `count` symbols.
 fn first_arguments(alloc: Global, count: usize) -> Result<Vec<u32>, AllocError> {
     let mut chosen = Vec::new(alloc);
     for _ in 0..count {

@@ -1,4 +1,4 @@
-//! What becomes of one argument in a pair.
+//! Projections in words: what becomes of one argument in a pair.
 
 use wh_pairs::Pair;
 use wh_subterm::{Relation, relation_at};
@@ -32,7 +32,7 @@ pub fn put_compared<'a>(
     }
 }
 
-// What is said of a relation.
+// The words about a relation.
 fn words_of(relation: Relation) -> &'static str {
     match relation {
         Relation::Equal => "it stays the same",

@@ -1,4 +1,4 @@
-//! Trees behind argument filters, printed.
+//! Printing trees behind argument filters.
 
 use wh_order_trees::{Tree, Trees};
 use wh_tell::{Names, Text, put_bound, put_meta, put_name};
@@ -18,7 +18,7 @@ const BRACKETS: Signs<'static> = Signs {
     end: "]",
 };
 
-/// Appends a filtered tree below so many binders; a spine that is bare has no parentheses.
+/// Appends a filtered tree below `depth` binders; a spine that is bare has no parentheses.
 #[cycle(filtered)]
 pub fn put_filtered_tree(text: &mut Text, names: &Names<'_>, tree: &Tree, depth: u32, bare: bool) {
     match tree {

@@ -1,4 +1,5 @@
-//! What is left of symbols behind filters, and a sentence for each inference, those of its parts below it.
+//! Path orders in words: what filters leave of symbols, and a sentence for each inference, with the sentences of its
+//! parts below it.
 
 use crate::filtered::put_filtered_tree;
 use wh_cert::{Filter, NamedFilter};
@@ -7,7 +8,7 @@ use wh_order_trees::Tree;
 use wh_tell::Piece::{Number, Say, Spell};
 use wh_tell::{Names, Text, put_numbers, tell};
 
-/// Appends what is left of each symbol; a mark stands behind the names of marked ones.
+/// Appends what filters leave of each symbol; a mark stands behind the names of marked ones.
 pub fn put_filters<'a>(text: &mut Text, mark: &'a str, lines: &'a [NamedFilter], depth: u32) {
     for line in lines {
         text.indent(depth);
@@ -24,7 +25,7 @@ pub fn put_filters<'a>(text: &mut Text, mark: &'a str, lines: &'a [NamedFilter],
     }
 }
 
-// What is said before the places of so many arguments.
+// The words before the places of `count` arguments.
 fn kept(count: usize) -> &'static str {
     match count {
         0 => " and keeps no argument",
@@ -40,7 +41,7 @@ const GREATER: &str = " is greater than ";
 
 const ABOVE: &str = " is above ";
 
-/// What an inference is to show of two trees, each below so many binders.
+/// The claim that an inference is to show of two trees, each below a number of binders.
 #[derive(Clone, Copy)]
 struct Claim<'a> {
     words: &'static str,
@@ -57,11 +58,11 @@ pub struct Comparison<'a> {
     pub left: &'a Tree,
     /// The right side.
     pub right: &'a Tree,
-    /// Whether the left one is to be greater, and not at least the right one alone.
+    /// Whether the left one is to be greater, and not just at least the right one.
     pub greater: bool,
 }
 
-/// Appends the inferences that show what is to be shown of the two sides.
+/// Appends the inferences that show the claim about the two sides.
 pub fn put_inferred(
     text: &mut Text,
     names: &Names<'_>,
@@ -114,7 +115,7 @@ fn put_letter(text: &mut Text, inference: &Inference) {
     text.say("\n");
 }
 
-// What is said of a letter, before the argument that it names where it names one.
+// The words about a letter, before the argument that it names where it names one.
 fn words_of(letter: Letter) -> &'static str {
     match letter {
         Letter::Same => "they are the same.",

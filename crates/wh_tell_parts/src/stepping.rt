@@ -1,4 +1,4 @@
-//! Single steps of a reduction.
+//! The term behind a single step of a reduction.
 
 use std::alloc::{AllocError, Global};
 use wh_step::step_at;

@@ -1,4 +1,5 @@
-//! What symbols are read as, and how the monomials of the left side of a rule or pair cover those of the right one.
+//! Interpretations in words: the polynomials of symbols, and how the monomials of the left side of a rule or pair cover
+//! those of the right one.
 
 use wh_cert::Interp;
 use wh_hopoly::{Move, Moves};
@@ -14,7 +15,7 @@ use wh_tell::{
 // How many monomials of a side are listed.
 const MOST_LISTED: usize = 100;
 
-/// Appends what symbols are read as; a mark stands behind the names of marked ones.
+/// Appends the polynomials of symbols; a mark stands behind the names of marked ones.
 pub fn put_readings<'a>(text: &mut Text, mark: &'a str, lines: &'a [Interp], depth: u32) {
     for line in lines {
         tell_line(
@@ -26,8 +27,8 @@ pub fn put_readings<'a>(text: &mut Text, mark: &'a str, lines: &'a [Interp], dep
     }
 }
 
-/// What both sides of a rule or pair are worth, if no value passes a limit, the line of moves between them, if there is
-/// one, and what it has to leave.
+/// The values of both sides of a rule or pair, where no value passes a limit, and the line of moves between them, where
+/// there is one.
 #[derive(Clone, Copy)]
 pub struct Valued<'a> {
     /// The left side.
@@ -86,7 +87,7 @@ fn put_variables(text: &mut Text, names: &Names<'_>, count: usize, depth: u32) {
     text.say("\n");
 }
 
-// Appends both sides and what is moved; and what is left of the constant where that is asked.
+// Appends the values of both sides and the moves, and what is left of the constant where that is asked.
 fn put_valued(text: &mut Text, valued: &Valued<'_>, depth: u32) {
     let (Some(left), Some(right)) = (valued.left, valued.right) else {
         tell_line(text, depth, "the value of a side passes a limit", &[]);
@@ -149,7 +150,7 @@ fn units_to(moves: &[Move], number: u32) -> u128 {
     sum
 }
 
-// What is said of the constant on the left of a pair that is dropped.
+// The words about the constant on the left of a pair that is dropped.
 fn words_of(left: &Poly, moves: &[Move]) -> &'static str {
     if spent(moves) < constant(left) {
         "a unit of the constant on the left is left over, as it has to be in a dropped pair"

@@ -1,4 +1,4 @@
-//! Whether a set has numbers of pairs alone.
+//! The test that a set has only numbers of pairs that are there.
 
 ghost use Rattle.std.specs.Prelude.{◌<◌, All, IsTrue};
 

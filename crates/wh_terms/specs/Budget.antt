@@ -9,8 +9,8 @@ pub record Keeps (low room : ℕ) (t : Tm) : Type 0 where
   pub narrow : SpinesWithin 32 t
   pub small : size t ≤ room
 
--- the same of a tree that begins a spine, with `more_arguments` further arguments, whose parts are at most `low` high
--- (ours)
+-- the tree begins a spine with `more_arguments` further arguments: its parts are at most `low` high, it is at most
+-- `room` large, and no spine has more than 32 arguments, this one included (ours)
 pub record KeepsAsFront (low more_arguments room : ℕ) (t : Tm) : Type 0 where
   pub low_enough : risen t (height t) ≤ low + 1
   pub narrow : SpinesWithin 32 t

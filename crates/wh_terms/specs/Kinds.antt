@@ -1,4 +1,4 @@
--- The types of passed binders.
+-- The types of the binders that a walk has passed, as a scope.
 use Rattle.std.specs.Prelude.{List, [], ◌∷◌}
 use Rattle.std.specs.Borrow.{Bor}
 use Rattle.wh_types.specs.Ty.{Ty}

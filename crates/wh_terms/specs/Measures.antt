@@ -1,4 +1,4 @@
--- The measures of a tree: size, height, nesting, and what fits.
+-- The measures of a tree: its size, its height and its nesting, and `Fits`, the limits on terms.
 use Rattle.std.specs.Prelude.{ℕ, ◌+◌, ◌≤◌, ◌<◌, ◌^◌, max}
 use Rattle.wh_types.specs.Limits.{most_arguments, greatest_height, greatest_size}
 use Rattle.wh_terms.specs.Tree.{Tm, bound, meta, lam, app, Tms, none, more, argument_count}

@@ -1,4 +1,4 @@
--- Patterns: the left sides of rules.
+-- Patterns, the left sides of rules: meta-variables stand there on distinct bound variables.
 use Rattle.std.specs.Prelude.{ℕ, ◌+◌, ◌<◌, ◌≢◌}
 use Rattle.wh_terms.specs.Tree.{Tm, bound, free, fun, meta, lam, app, Tms, none, more}
 

@@ -1,4 +1,4 @@
--- Places in a tree: a path is a list of 0 and 1.
+-- Positions in a tree: a path is a list of 0 and 1, and leads to a part.
 use Rattle.std.specs.Prelude.{ℕ, zero, suc, ◌+◌, ◌<◌, List, [], ◌∷◌, Option, Some, None, option_and_then, All}
 use Rattle.wh_terms.specs.Tree.{Tm, free, lam, app}
 use Rattle.wh_terms.specs.Substitution.{opened}
@@ -19,7 +19,7 @@ abbrev pub part_at : List ℕ → Tm → Option Tm
 part_at [] t = Some t
 part_at (d ∷ path) t = option_and_then (part_at path) (child d t)
 
--- the same, but each passed abstraction is opened by a free variable of its type, numbered from x on
+-- the part at a path, where each passed abstraction is opened by a free variable of its type, numbered from x on
 abbrev pub opened_part_at : ℕ → List ℕ → Tm → Option Tm
 opened_part_at x [] t = Some t
 opened_part_at x (zero ∷ path) (lam a t) = opened_part_at (x + 1) path (opened (free x a) t)

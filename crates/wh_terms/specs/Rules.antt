@@ -1,4 +1,4 @@
--- Rules, and what makes them well made as far as terms go.
+-- Rewrite rules, and what makes them well made: typed sides, a pattern on the left, no new meta-variable on the right.
 use Rattle.std.specs.Prelude.{ℕ, ◌≡◌, List, [], Contains}
 use Rattle.wh_types.specs.Ty.{Ty}
 use Rattle.wh_terms.specs.Tree.{Tm, fun, head, argument_count}

@@ -15,11 +15,11 @@ pub data StepOver (R : Tm → Tm → Type 0) : Tm → Tm → Type 0 where
   over_argument : {t u u' : Tm} → StepOver R u u' → StepOver R (app t u) (app t u')
   over_body : {a : Ty} {t t' : Tm} → StepOver R t t' → StepOver R (lam a t) (lam a t')
 
--- what is put for the loose variables are terms
+-- the trees that are put for loose variables are terms
 abbrev pub AreTerms : (ℕ → Tm) → Type 0
 AreTerms σ = (i : ℕ) → IsTerm (σ i)
 
--- what is put for the free variables are terms
+-- the trees that are put for free variables are terms
 abbrev pub AreFreeTerms : (ℕ → Ty → Tm) → Type 0
 AreFreeTerms φ = (x : ℕ) (a : Ty) → IsTerm (φ x a)
 

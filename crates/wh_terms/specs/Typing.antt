@@ -1,4 +1,4 @@
--- Typing of terms and meta-terms.
+-- Typing of terms and meta-terms over a signature: `Typed` for meta-terms below binders, `WellTyped` for terms.
 use Rattle.std.specs.Prelude.{ℕ, ◌≡◌, List, [], ◌∷◌, Some, slice_get}
 use Rattle.wh_types.specs.Ty.{Ty, ◌⇒◌, SortsBelow}
 use Rattle.wh_terms.specs.Tree.{Tm, bound, free, fun, meta, lam, app, Tms, none, more}

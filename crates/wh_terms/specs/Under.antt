@@ -1,4 +1,5 @@
--- Substitution below binders.
+-- Substitution below binders: how the trees that are put for loose and free variables read below binders that were
+-- passed.
 use Rattle.std.specs.Prelude.{ℕ, zero, suc, ◌+◌, List, [], ◌∷◌, ◌==◌, ◌&&◌, if◌then◌else◌}
 use Rattle.wh_types.specs.Ty.{Ty, same_ty}
 use Rattle.wh_terms.specs.Tree.{Tm, bound, free}

@@ -1,4 +1,4 @@
--- The value of a meta-term under a meta-substitution.
+-- The value of a meta-term under a meta-substitution: bodies take the place of meta-variables.
 use Rattle.std.specs.Prelude.{ℕ, ◌≡◌}
 use Rattle.wh_types.specs.Ty.{Ty}
 use Rattle.wh_terms.specs.Tree.{Tm, bound, free, fun, meta, lam, app, Tms, none, more, count}

@@ -1,4 +1,4 @@
-//! Applying a meta-substitution.
+//! Applying a meta-substitution: the value of a meta-term. `apply_meta` is the main function.
 
 ghost use Rattle.std.specs.Prelude.{◌≡◌, IfOk, All};
 ghost use Rattle.wh_types.specs.Erase.{ty};
@@ -57,7 +57,7 @@ fn value_under(alloc: Global, by: &MetaSubst, term: &Term, depth: u32) -> Result
     }
 }
 
-// The same for each argument of a meta-variable.
+// The values of the arguments of a meta-variable, `depth` binders below the root of the term.
 #[cycle(apply)]
 #[tactic(auto, using(crate::proofs::ValuedLaws::values_push))]
 fn values_under(

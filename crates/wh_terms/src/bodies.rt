@@ -1,4 +1,5 @@
-//! The bodies of a meta-substitution: the search for one, and its insertion.
+//! The bodies of a meta-substitution: `body_for` looks one up, and `insert` puts the values of arguments for its
+//! parameters.
 
 ghost use Rattle.std.specs.Prelude.{◌≡◌, ◌+◌, IfOk, MatchOption};
 ghost use Rattle.wh_types.specs.Erase.{ty};

@@ -1,4 +1,5 @@
-//! Closing a term over a free variable.
+//! Closing a term over a free variable: `close` makes the body of an abstraction, in which that variable is bound. It
+//! is the way back from `open_with`.
 
 ghost use Rattle.std.specs.Prelude.{◌≡◌, IfOk};
 ghost use Rattle.wh_types.specs.Erase.{ty};

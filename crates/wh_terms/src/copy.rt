@@ -1,4 +1,4 @@
-//! Copies of terms.
+//! Copies of terms. A term owns its parts, so a caller that keeps a term copies it.
 
 ghost use Rattle.std.specs.Prelude.{◌≡◌, IfOk};
 ghost use Rattle.wh_terms.specs.Erase.{tm, tms};

@@ -1,4 +1,4 @@
-//! Equality of terms, as trees.
+//! Equality of terms, as trees. Bound variables are numbers, so terms that differ in bound names alone are equal.
 
 ghost use Rattle.std.specs.Prelude.{◌≡◌, ◌↔◌, IsTrue};
 ghost use Rattle.wh_terms.specs.Erase.{tm, tms};

@@ -1,4 +1,5 @@
-//! Terms and meta-terms under binders: trees with nameless bound variables.
+//! Terms and meta-terms under binders, as trees with nameless bound variables: their types, measures and positions,
+//! substitution, opening and closing of abstractions, and values of meta-terms.
 #![tactic(auto)]
 
 mod apply;

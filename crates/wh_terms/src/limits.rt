@@ -27,7 +27,7 @@ pub fn fits(t: &Term) -> bool
     spend(t, MOST_HEIGHT, MOST_SIZE).is_some()
 }
 
-// What is left of the size `room` beyond the term, if that and the height `low` are enough.
+// What is left of the size `room` behind the term, if the term's size is within `room` and its height within `low`.
 #[cycle(limits)]
 fn spend(t: &Term, low: u32, room: u32) -> Option<u32>
     ensures { Left room (size (tm t.now)) (Keeps low room (tm t.now)) result }
@@ -45,8 +45,8 @@ fn spend(t: &Term, low: u32, room: u32) -> Option<u32>
     }
 }
 
-// The same of a term that begins a spine with `more_arguments` further arguments, whose parts have the height `low`
-// left.
+// What is left of the size `room` behind a term that begins a spine with `more_arguments` further arguments, if its
+// size is within `room`, its spine within the limit of arguments, and the height of its parts within `low`.
 #[cycle(limits)]
 fn spend_front(t: &Term, low: u32, more_arguments: u32, room: u32) -> Option<u32>
     ensures { Left room (size (tm t.now)) (KeepsAsFront low more_arguments room (tm t.now)) result }
@@ -64,7 +64,8 @@ fn spend_front(t: &Term, low: u32, more_arguments: u32, room: u32) -> Option<u32
     }
 }
 
-// The same of the arguments of a meta-variable: each is less than `low` high.
+// What is left of the size `room` behind the arguments of a meta-variable, if each of them is less than `low` high and
+// all of them together are within `room`.
 #[cycle(limits)]
 fn spend_all(items: &Terms, low: u32, room: u32) -> Option<u32>
     ensures { Left room (sizes (tms items.now)) (AllKeep low room (tms items.now)) result }

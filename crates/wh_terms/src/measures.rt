@@ -1,4 +1,5 @@
-//! The height and the size of a term.
+//! The height and the size of a term. The limits on terms speak of both; `limits` tests them in a walk that stops
+//! early.
 
 ghost use Rattle.std.specs.Prelude.{◌≡◌, ◌≤◌, ◌<◌, ◌^◌};
 ghost use Rattle.wh_terms.specs.Erase.{tm, tms};
@@ -6,8 +7,8 @@ ghost use Rattle.wh_terms.specs.Measures.{size, sizes, height, heights, nesting,
 
 use crate::term::{Term, Terms};
 
-/// The height of a term: that of a spine with arguments, and of a meta-variable with arguments, is one more than the
-/// greatest height of its parts; that of an abstraction one more than its body's; all else has height 0.
+/// The height of a term. A spine with arguments, and a meta-variable with arguments, is one higher than its highest
+/// part; an abstraction is one higher than its body; each other term has height 0.
 #[cycle(height)]
 pub fn height(t: &Term) -> u32
     requires { nesting (tm t.now) < 2 ^ 30 }

@@ -1,4 +1,4 @@
-//! The part of a term at a place, with the passed binders opened.
+//! The part of a term at a position, with the binders on the way opened by free variables.
 
 ghost use Rattle.std.specs.Prelude.{◌≡◌, ◌+◌, ◌<◌, ◌^◌, length, option_map, IfOk};
 ghost use Rattle.wh_types.specs.Erase.{ty};
@@ -60,8 +60,9 @@ impl Replace for Passing<'_> {
     }
 }
 
-/// The part at a place, with a free variable for each abstraction that the path passes: the outermost one is numbered
-/// `first`, each further one counts on, and each has the type of its abstraction. None if there is no such place.
+/// The part at a position, with a free variable for each abstraction that the path passes: the outermost one is
+/// numbered `first`, each further one counts on, and each has the type of its abstraction. None if there is no such
+/// position.
 #[tactic(auto, using(crate::proofs::UnderLemmas::act_top, crate::proofs::PassedLemmas::down_lam, crate::proofs::PassedLemmas::down_function, crate::proofs::PassedLemmas::down_argument, crate::proofs::PassedLemmas::no_body, crate::proofs::PassedLemmas::no_part, crate::proofs::PassedLemmas::no_child, crate::proofs::PassedLemmas::from_start, crate::proofs::PassedLemmas::at_end))]
 pub fn opened_at(
     alloc: Global,

@@ -1,4 +1,4 @@
-//! Opening the body of an abstraction.
+//! Opening the body of an abstraction: `open_with` puts a term for the variable that the abstraction binds.
 
 ghost use Rattle.std.specs.Prelude.{◌≡◌, IfOk};
 ghost use Rattle.wh_types.specs.Erase.{ty};

@@ -1,4 +1,4 @@
-//! Places in a term.
+//! Positions in a term, as paths from its root, and single steps of a reduction.
 
 ghost use Rattle.std.specs.Prelude.{◌≡◌, ◌<◌, [], ◌∷◌, ◌++◌, IfOk, OnOk, OnErr};
 ghost use Rattle.wh_terms.specs.Places.{IsPath};

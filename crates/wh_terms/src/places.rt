@@ -1,4 +1,4 @@
-//! The part of a term at a place.
+//! The part of a term at a position, as it stands.
 
 ghost use Rattle.std.specs.Prelude.{◌≡◌, option_map};
 ghost use Rattle.wh_terms.specs.Erase.{tm};

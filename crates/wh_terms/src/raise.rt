@@ -1,4 +1,4 @@
-//! Moving a term below binders.
+//! Raising a term: it is moved below further binders, and its loose variables are counted on.
 
 ghost use Rattle.std.specs.Prelude.{◌≡◌, ◌+◌, IfOk, IsTrue};
 ghost use Rattle.wh_types.specs.Erase.{ty};
@@ -47,7 +47,8 @@ impl Replace for Raising {
     }
 }
 
-/// The term as it reads below `by` binders more. Numbers that 32 bits do not hold take more binders than memory does.
+/// The term as it reads below `by` further binders. Where a number exceeds 32 bits there are more binders than memory
+/// holds, and the answer is want of memory.
 #[tactic(auto, using(crate::proofs::UnderLemmas::raised_zero, crate::proofs::UnderLemmas::raised_is_act, crate::proofs::UnderLemmas::act_top))]
 pub fn raise(alloc: Global, term: &Term, by: u32) -> Result<Term, AllocError>
     ensures { IfOk result (λ r. tm r ≡ raised by (tm term.now)) }

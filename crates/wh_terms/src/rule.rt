@@ -1,4 +1,4 @@
-//! What terms are built over, and rewrite rules.
+//! Signatures, which terms are built over, declarations of meta-variables, and rewrite rules.
 
 use crate::lists::Types;
 use crate::term::Term;

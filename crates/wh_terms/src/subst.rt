@@ -74,7 +74,7 @@ pub struct MetaBody {
     pub meta: u32,
     /// How many arguments it has.
     pub arity: u32,
-    /// A tree under as many parameters. The parameters are its nearest loose variables: outside all of the body's own
+    /// A tree below `arity` parameters. The parameters are its nearest loose variables: outside all of the body's own
     /// binders `Bound(0)` is the last one.
     pub body: Term,
 }

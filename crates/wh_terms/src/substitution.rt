@@ -1,4 +1,4 @@
-//! Trees for free variables.
+//! Substitution: trees are put for free variables, and nothing is captured.
 
 ghost use Rattle.std.specs.Prelude.{◌≡◌, IfOk, MatchOption, All};
 ghost use Rattle.wh_types.specs.Erase.{ty};

@@ -1,4 +1,5 @@
-//! The trees themselves.
+//! Terms and meta-terms as data. Bound variables are numbers that count binders outward, so no names have to be kept
+//! apart.
 
 use wh_types::{List, SimpleType};
 

@@ -1,4 +1,4 @@
-//! The type of a term.
+//! The type of a term. `type_of` finds it in one walk over the term, which keeps the types of the binders around it.
 
 ghost use Rattle.std.specs.Prelude.{
   ◌≡◌,
@@ -38,7 +38,7 @@ pub fn type_of(
     type_under(alloc, signature, metas, &mut binders, term)
 }
 
-// The same under binders of the types `binders`, the outermost first.
+// The type of a part of a term below binders of the types `binders`, the outermost first.
 #[cycle(typing)]
 fn type_under<'a>(
     alloc: Global,
@@ -75,7 +75,7 @@ fn type_under<'a>(
     }
 }
 
-// The same of a meta-variable with its arguments.
+// The type of a meta-variable with its arguments, below binders of the types `binders`.
 #[cycle(typing)]
 fn type_of_meta<'a>(
     alloc: Global,
@@ -100,7 +100,7 @@ fn type_of_meta<'a>(
     }
 }
 
-// The same of an abstraction over a variable of the type `kind`.
+// The type of an abstraction over a variable of the type `kind`, below binders of the types `binders`.
 #[cycle(typing)]
 fn type_of_abstraction<'a>(
     alloc: Global,

@@ -1,7 +1,7 @@
 //! The walk that puts trees for variables.
 //!
 //! Opening, closing, substitution and the insertion of a body are one walk. It never opens a binder: it carries the
-//! number of binders that it has passed, and what takes a variable's place is told for that number.
+//! number of binders that it has passed, and asks for what takes a variable's place under that number.
 
 ghost use Rattle.std.specs.Prelude.{◌≡◌, ◌+◌, ℕ, IfOk};
 ghost use Rattle.wh_terms.specs.Erase.{tm, tms};
@@ -75,7 +75,8 @@ pub fn act_under<R: Replace>(
     }
 }
 
-// The same for each of the arguments of a meta-variable.
+// Puts the trees of `by` for the variables of each argument of a meta-variable, `depth` binders below the place where
+// `by` speaks.
 #[cycle(act)]
 #[tactic(auto, using(crate::proofs::WalkLemmas::acts_push, crate::proofs::WalkLemmas::acts_none))]
 fn act_each<R: Replace>(

@@ -21,7 +21,7 @@ use wh_types::counted;
 /// What is wrong with a projection, and with which pair. The word is empty where nothing is.
 type Told = (&'static str, u32);
 
-/// What is wrong with it.
+/// What is wrong with the projection.
 fn told(answer: Result<(), SubtermFault>) -> Told {
     match answer {
         Ok(()) => ("", 0),

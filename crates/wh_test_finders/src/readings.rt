@@ -1,4 +1,4 @@
-//! What the symbols of a system are read as.
+//! Interpretations of the symbols of a system, from tables.
 
 ghost use Rattle.std.specs.Prelude.{◌≡◌, IfOk, OnOk, map};
 ghost use Rattle.wh_types.specs.Erase.{ty, tys};
@@ -54,7 +54,7 @@ fn arguments_of(alloc: Global, kind: &SimpleType) -> Result<Vec<SimpleType>, All
     Ok(kinds)
 }
 
-/// That the polynomials are normal. Want of memory stands for one that is not.
+/// Demands that the polynomials are normal. Want of memory stands for one that is not.
 pub fn demand_normal(alloc: Global, symbols: &[Symbol]) -> Result<(), AllocError>
     ensures { OnOk result (NormalInterpretations (interpretations symbols.now)) }
 {

@@ -1,5 +1,5 @@
-//! What the finders that `prove` asks about one set come to. That the conditions of a node that is found hold is a
-//! clause of their calls.
+//! Rows of the finders that `prove` asks about one set. That the conditions of a node that is found hold is a clause of
+//! their calls.
 
 ghost use Rattle.std.specs.Prelude.{◌≤◌, ◌<◌, All, IfOk, length};
 ghost use Rattle.wh_types.specs.Limits.{most_pairs};
@@ -33,7 +33,7 @@ enum Finder {
     Order,
 }
 
-/// Who is asked about which pair, and how many clauses may be learnt.
+/// Which finder is asked about which pair, and how many clauses may be learnt.
 #[derive(Clone, Copy)]
 struct Question {
     finder: Finder,

@@ -30,7 +30,7 @@ fn count(circuit: &Circuit) -> u32
     circuit.formula().variables
 }
 
-// Whether so many variables may join.
+// Whether `more` variables may join.
 fn has_room(circuit: &Circuit, more: usize) -> bool
     ensures { OnTrue result (length (gates_of circuit.now) + more < 2 ^ 31) }
 {
@@ -193,7 +193,7 @@ fn told(alloc: Global, circuit: &Circuit, of: &[Wire]) -> Result<String, AllocEr
     Ok(text)
 }
 
-// What a call over inputs of these values comes to.
+// The values of a call's wires over inputs of these values.
 fn come_to(
     alloc: Global,
     call: Call,
@@ -229,7 +229,7 @@ const CALLS: &[(Call, &[bool], &[bool], &str)] = &[
     (Call::And, TWO, NOTHING, "0"),
     (Call::Or, TWO, NOTHING, "1"),
     (Call::Or, &[false, false], NOTHING, "0"),
-    // Of nothing.
+    // The calls on no wires.
     (Call::And, NOTHING, NOTHING, "1"),
     (Call::AtLeast, NOTHING, NOTHING, "1"),
     (Call::Or, NOTHING, NOTHING, "0"),
@@ -246,7 +246,7 @@ fn circuits_come_to_their_values(rt: HostRuntime) -> Result<(), Fail> {
     Ok(())
 }
 
-// What a circuit comes to that requires an input and its negation.
+// The answer about a circuit that requires an input and its negation.
 fn contradiction(alloc: Global) -> Result<String, AllocError> {
     let mut circuit = Circuit::new(alloc);
     let wire = input(&mut circuit)?;

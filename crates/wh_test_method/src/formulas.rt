@@ -41,7 +41,7 @@ fn is_below(variables: u32, literal: Literal) -> bool
     literal.variable < variables
 }
 
-/// Whether the literals' variables are.
+/// Whether the variables of all literals are below a number.
 pub fn are_below(variables: u32, clause: &[Literal]) -> bool
     ensures { OnTrue result (AllBelow variables clause.now) }
 {

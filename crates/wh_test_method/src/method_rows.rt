@@ -1,6 +1,6 @@
 //! Rows of the calls of the method over systems that are read from texts: ranks, projections, the graph and its
 //! components. Each value is made in a function of its own, which hands it on by reference, as the outcome that it
-//! comes in: a function that holds several, or takes one out of an outcome, is dear to prove.
+//! comes in: a function that holds several, or takes one out of an outcome, takes the prover long.
 
 ghost use Rattle.std.specs.Prelude.{◌<◌, All, IfOk, length};
 
@@ -19,7 +19,7 @@ use wh_test_samples::{
 };
 use wh_types::{Blocks, Numbers, Or, Ranks};
 
-/// What is asked about a system.
+/// A question about a system.
 #[derive(Clone, Copy)]
 enum Question<'a> {
     /// What becomes of the search for ranks.
@@ -30,7 +30,7 @@ enum Question<'a> {
     OfPairs(PairQuestion<'a>),
 }
 
-/// What is asked about all pairs of a system.
+/// A question about all pairs of a system.
 #[derive(Clone, Copy)]
 enum PairQuestion<'a> {
     /// What is wrong with the projection of one symbol to an argument, where pair 0 is to be dropped.
@@ -61,7 +61,7 @@ fn answer(alloc: Global, text: &[u8], question: Question) -> Result<Told, AllocE
     answer_from(alloc, &outcome, question)
 }
 
-/// The same about the system that is read.
+/// The answer about the system that is read.
 fn answer_from(
     alloc: Global,
     outcome: &Result<System, Or<Refused>>,
@@ -73,7 +73,7 @@ fn answer_from(
     }
 }
 
-/// The same about the system.
+/// The answer about the system.
 fn answer_about(alloc: Global, system: &System, question: Question) -> Result<Told, AllocError> {
     match question {
         Question::FoundRanks => told_of_search(alloc, system),
@@ -92,7 +92,7 @@ fn answer_of_pairs(
     answer_of_found(alloc, system, &outcome, question)
 }
 
-/// The same about the pairs that are found.
+/// The answer about the pairs that are found.
 fn answer_of_found(
     alloc: Global,
     system: &System,
@@ -202,7 +202,7 @@ fn told_of_outcome(outcome: &Result<Ranks, Or<NoRanks>>) -> Result<Told, AllocEr
     }
 }
 
-/// The same of the search for ranks of the system.
+/// How the ranks stand that the search for ranks of the system finds, or why there are none.
 fn told_of_search(alloc: Global, system: &System) -> Result<Told, AllocError> {
     let outcome = find_ranks(alloc, system);
     told_of_outcome(&outcome)
@@ -238,7 +238,7 @@ fn told_of_check(system: &System, ranks: &Ranks) -> Told {
     }
 }
 
-/// The same of the ranks that these two numbers give.
+/// What is wrong with the ranks that these two numbers give.
 fn told_of_ranks(alloc: Global, system: &System, numbers: &[u32]) -> Result<Told, AllocError> {
     let [first, second] = numbers else {
         return Err(AllocError);

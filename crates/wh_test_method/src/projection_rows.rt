@@ -102,7 +102,7 @@ fn add_symbols(text: &mut String, rules: u32) -> Result<(), AllocError> {
     Ok(())
 }
 
-/// Its rules: each symbol calls the next one, and the fourth argument alone gets smaller.
+/// The rules of a ring: each symbol calls the next one, and the fourth argument alone gets smaller.
 fn add_rules(text: &mut String, rules: u32) -> Result<(), AllocError> {
     for number in 0..rules {
         let next = (number + 1) % rules;
@@ -114,7 +114,7 @@ fn add_rules(text: &mut String, rules: u32) -> Result<(), AllocError> {
     Ok(())
 }
 
-/// The text of a ring of so many rules.
+/// The text of a ring of `rules` rules.
 fn ring(alloc: Global, rules: u32) -> Result<String, AllocError> {
     let mut text = String::new(alloc);
     text.push_str("sort o;fun s:o->o;")?;

@@ -33,7 +33,7 @@ fn told(outcome: Outcome) -> &'static str {
     }
 }
 
-/// Of two variables both values of each are refused.
+/// Clauses over two variables that refuse each pair of values.
 pub const REFUSED: &[&[i32]] = &[&[1, 2], &[1, -2], &[-1, 2], &[-1, -2]];
 
 /// Formulas and budgets with the answers.

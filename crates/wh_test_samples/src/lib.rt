@@ -1,4 +1,4 @@
-//! Systems for the crates of tests.
+//! Systems as texts, which the crates of tests share.
 #![tactic(auto)]
 
 /// `map` over lists.

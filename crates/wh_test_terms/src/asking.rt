@@ -1,4 +1,4 @@
-//! What is asked in a row, and the comparison of the answer with the text that is expected.
+//! The questions of rows, and the comparison of an answer with the text that is expected.
 
 use crate::calls::{Call, add_called};
 use crate::rank_rows::add_found_ranks;

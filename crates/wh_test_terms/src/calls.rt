@@ -1,5 +1,5 @@
 //! Calls on the term of a certificate in a system. Each value is made in a function of its own, which hands it on by
-//! reference: a function that holds several is dear to prove.
+//! reference: a function that holds several takes the prover long.
 
 ghost use Rattle.wh_terms.specs.Erase.{tm};
 ghost use Rattle.wh_terms.specs.Measures.{Fits, Manageable};
@@ -18,7 +18,7 @@ use wh_types::{Bytes, Or};
 /// A call on the term of a certificate.
 #[derive(Clone, Copy)]
 pub enum Call {
-    /// Its reducts in their order, each behind a blank.
+    /// The reducts of the term in their order, each behind a blank.
     Reducts,
     /// The result of the certificate's one step.
     Step,

@@ -12,7 +12,7 @@ fn add_text(alloc: Global, table: &mut Table, text: &[u8]) -> Result<u32, AllocE
     table.add(&term_of(alloc, text)?)
 }
 
-/// A symbol applied twice to the term before, that many times.
+/// A term of `times` levels: at each a symbol is applied to two copies of the term of the level below.
 fn add_doubled(text: &mut Bytes, times: u32) -> Result<(), AllocError> {
     if times == 0 {
         return text.push(b'a');

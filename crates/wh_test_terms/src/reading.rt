@@ -14,7 +14,7 @@ use wh_terms::{Term, fits};
 use wh_text::RawTerm;
 use wh_types::Or;
 
-/// Reads the system of a text. The outcome is handed on as it is: what takes the system out of it is dear to prove.
+/// Reads the system of a text. The outcome is handed on as it is: to take the system out of it takes the prover long.
 pub fn read(alloc: Global, text: &[u8]) -> Result<System, Or<Refused>> {
     if text.len() > 1_048_576 {
         return Err(Or::NoMemory);

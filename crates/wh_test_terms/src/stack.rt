@@ -100,7 +100,7 @@ pub fn term_of(alloc: Global, text: &[u8]) -> Result<Term, AllocError> {
     last(&mut stack)
 }
 
-/// A symbol, and the item that many times behind it.
+/// A symbol, and the item `times` times behind it.
 pub fn add_repeated(text: &mut Bytes, item: &[u8], times: u32) -> Result<(), AllocError> {
     text.push(b'a')?;
     for _ in 0..times {

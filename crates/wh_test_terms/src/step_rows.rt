@@ -296,7 +296,7 @@ fn tells_where_steps_lead_or_which_fails(rt: HostRuntime) -> Result<(), Fail> {
     Ok(())
 }
 
-/// An item that many times.
+/// The item `times` times.
 fn add_times(text: &mut Vec<u8>, times: u32, item: &[u8]) -> Result<(), AllocError> {
     for _ in 0..times {
         text.extend_from_slice(item)?;

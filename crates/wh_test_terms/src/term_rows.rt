@@ -122,7 +122,7 @@ fn text_fits(alloc: Global, text: &[u8]) -> Result<bool, AllocError> {
     Ok(fits(&term))
 }
 
-/// Whether a symbol with an item that many times behind it fits.
+/// Whether a symbol with an item `times` times behind it fits.
 fn repeated_fits(alloc: Global, item: &[u8], times: u32) -> Result<bool, AllocError> {
     let mut text = Bytes::new(alloc);
     add_repeated(&mut text, item, times)?;

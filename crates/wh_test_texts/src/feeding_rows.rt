@@ -54,7 +54,7 @@ fn add_item(out: &mut Bytes, item: Option<Item>, lines: u32) -> Result<(), Alloc
     }
 }
 
-/// What comes while the bytes are read one by one.
+/// Reads the bytes one by one, and appends the items that come.
 fn add_fed(alloc: Global, out: &mut Bytes, bytes: &[u8]) -> Result<(), AllocError>
     requires { length bytes.now < 2 ^ 32 - 1 }
 {
@@ -76,7 +76,7 @@ fn add_fed(alloc: Global, out: &mut Bytes, bytes: &[u8]) -> Result<(), AllocErro
     }
 }
 
-/// What comes while the bytes are read, as a text.
+/// The items that come while the bytes are read, as a text.
 fn fed(alloc: Global, bytes: &[u8]) -> Result<Bytes, AllocError> {
     let mut out = Bytes::new(alloc);
     if bytes.len() < 1_000_000 {

@@ -1,4 +1,4 @@
--- Classes of bytes, and runs of them.
+-- Classes of bytes in texts (space, digits, parts of names), and runs of bytes of one class.
 use Rattle.std.specs.Prelude.{ℕ, ◌≡◌, ◌==◌, ◌&&◌, ◌||◌, not, nat_le, Bool, true, false, List, [], ◌∷◌}
 
 -- the byte that ends a line, and the one that parts fields

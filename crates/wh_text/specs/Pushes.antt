@@ -1,4 +1,4 @@
--- What a printer appends (ours).
+-- Printers append: a list of bytes becomes longer by the spelling of what is printed (ours).
 use Rattle.std.specs.Prelude.{ℕ, ◌≡◌, List, ◌++◌}
 
 -- the new bytes are the old ones with a spelling behind them, which is given as `put`: the spelling with r behind it

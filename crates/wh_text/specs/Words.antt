@@ -1,4 +1,4 @@
--- Words, names and numbers, as bytes.
+-- Words, keywords, names and numbers of texts, as lists of bytes.
 use Rattle.std.specs.Prelude.{ℕ, ◌≡◌, ◌≢◌, ◌+◌, ◌-◌, ◌*◌, ◌≤◌, ◌⊎◌, true, List, [], ◌∷◌, length, codes}
 use Rattle.wh_types.specs.Limits.{longest_name, greatest_number}
 use Rattle.wh_text.specs.Chars.{is_digit, is_start, is_part, AllPass}

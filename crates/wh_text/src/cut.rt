@@ -22,28 +22,28 @@ enum Piece {
     Cut(Token),
 }
 
-/// White space.
+/// Whether the byte is white space.
 fn is_space(b: u8) -> bool
     ensures { result ≡ is_space b }
 {
     b == b' ' || b == b'\t' || b == b'\r' || b == b'\n'
 }
 
-/// A byte that a name begins with.
+/// Whether a name may begin with the byte.
 fn is_start(b: u8) -> bool
     ensures { result ≡ is_start b }
 {
     b.is_ascii_uppercase() || b.is_ascii_lowercase() || b == b'_'
 }
 
-/// A byte that a name goes on with.
+/// Whether a name may go on with the byte.
 fn is_part(b: u8) -> bool
     ensures { result ≡ is_part b }
 {
     is_start(b) || b.is_ascii_digit() || b == b'\''
 }
 
-/// A sign of one byte.
+/// Whether the byte is a sign of one byte.
 fn is_sign(b: u8) -> bool
     ensures { result ≡ is_sign b }
 {

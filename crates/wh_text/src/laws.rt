@@ -1,4 +1,4 @@
-//! A text is cut in one way.
+//! The law of the cutting of texts: the bytes of a text settle its tokens.
 
 ghost use Rattle.std.specs.Prelude.{◌≡◌, ℕ, List};
 ghost use Rattle.wh_text.specs.Tokens.{Token, Ending, Cuts};

@@ -1,4 +1,4 @@
-//! Names, as bytes.
+//! Names of sorts, symbols and variables, as bytes.
 
 ghost use Rattle.std.specs.Prelude.{◌≡◌, IfOk};
 ghost use Rattle.std.specs.Cmp.{partial_equiv_from_equiv};
@@ -42,7 +42,7 @@ impl Name {
         })
     }
 
-    /// Its bytes.
+    /// The bytes of the name.
     pub fn bytes(&self) -> &[u8]
         ensures value { result.now ≡ self.now }
         ensures word { IsWord self.now }

@@ -1,5 +1,5 @@
-//! The spelling of raw trees: each printer appends to a list of bytes, in one walk over its tree. Without memory the
-//! list may have got a front of the spelling.
+//! The spelling of raw trees. Each printer appends to a list of bytes, in one walk over its tree; `print_raw` answers
+//! with the text of a term. Where memory is wanting the list may have got the first bytes of the spelling.
 
 ghost use Rattle.std.specs.Prelude.{◌≡◌, [], ◌∷◌, ◌++◌, IfOk, OnOk};
 ghost use Rattle.std.specs.Fmt.{decimal};

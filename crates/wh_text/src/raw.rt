@@ -1,4 +1,5 @@
-//! Raw trees: what a text says before its names are looked up.
+//! Raw trees: types and terms as a text writes them, before their names are looked up. Readers make them, and `print`
+//! spells them.
 
 use crate::name::Name;
 use wh_types::List;
@@ -10,7 +11,7 @@ pub struct RawType {
     pub args: RawTypes,
     /// The name of the sort.
     pub sort: Name,
-    /// The offset of that name; 0 in a certificate.
+    /// The offset of the sort's name, in bytes; 0 in a certificate.
     pub at: u32,
 }
 
@@ -26,7 +27,8 @@ pub enum RawBinder {
     Numbered(u32),
 }
 
-/// A term as it is written. The last number of each variant is the byte where it stands; it is 0 in a certificate.
+/// A term as it is written. The last number of each variant is the offset where it stands, in bytes; 0 in a
+/// certificate.
 #[derive(Drop)]
 pub enum RawTerm {
     /// A plain name.
@@ -37,7 +39,7 @@ pub enum RawTerm {
     Free(u32, Box<RawType>, u32),
     /// A name with arguments in brackets.
     Meta(Name, RawTerms, u32),
-    /// An abstraction: its binder, the type of that, and the body.
+    /// An abstraction: its binder, the type of the binder's variable, and the body.
     Lam(RawBinder, Box<RawType>, Box<RawTerm>, u32),
     /// A head with one or more arguments; the head is no spine.
     Spine(Box<RawTerm>, RawTerms, u32),

@@ -1,4 +1,4 @@
-//! Tokens, with the offsets where they stand.
+//! Tokens of a text, with the offsets where they stand. `cut` makes them.
 
 use thiserror::Error;
 use wh_types::{List, Or};

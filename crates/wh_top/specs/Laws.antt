@@ -1,4 +1,4 @@
--- What the text of a proof comes to.
+-- Laws of what the search writes: the check accepts it, and it means what it says.
 use Rattle.std.specs.Prelude.{ℕ, ◌≡◌, List}
 use Rattle.wh_system.specs.Systems.{SystemData}
 use Rattle.wh_pairs.specs.PairData.{PairData}
@@ -19,7 +19,8 @@ ProofsAreAccepted = (d : SystemData) (ps : List PairData) (c : Cert) (bytes : Li
     → IsProof d ps c → CertText bytes c
     → ((e : Cert) → CertText bytes e → e ≡ c) × ((f : CheckFault) → IsFirstFault with_limits d ps c f → ⊥)
 
--- so it is with the text of a loop's certificate
+-- the text of a loop's certificate is that of no other certificate, and no fault is the first of it, also where values
+-- have limits
 abbrev pub LoopsAreAccepted : Type 0
 LoopsAreAccepted = (d : SystemData) (ps : List PairData) (depth : ℕ) (c : Cert) (bytes : List ℕ) → IsWellMadeSystem d
     → IsLoopCertificate d depth c → CertText bytes c

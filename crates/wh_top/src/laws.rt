@@ -1,4 +1,4 @@
-//! The laws of answers, each the contract of a function that does nothing.
+//! Laws of answers: of what a check answers on the bytes of a certificate, and on what the search found.
 
 ghost use Rattle.wh_top.specs.Laws.{LoopsAreAccepted, LoopsMeanUnbounded, ProofsAreAccepted, ProofsMeanBounded};
 ghost use Rattle.std.specs.Prelude.{◌≤◌, ℕ, List, length};
@@ -13,16 +13,16 @@ ghost use Rattle.wh_top_judging.specs.Outcomes.{Judged};
 use wh_checker::valid_certificates_mean_bounded;
 use wh_no::valid_claims_are_unbounded;
 
-/// The bytes of a certificate come to one answer, but that values may exceed both limits in one node. So a check
-/// answers `YES` exactly where the bytes are the text of a valid certificate of termination in which no value exceeds a
-/// limit, and `NO` exactly where they are that of a valid one of non-termination.
+/// The bytes of a certificate come to one answer. The one exception: values may exceed both limits in one node. So a
+/// check answers `YES` exactly where the bytes are the text of a valid certificate of termination in which no value
+/// exceeds a limit, and `NO` exactly where they are the text of a valid one of non-termination.
 pub fn checks_have_one_answer()
     ensures { (d : SystemData) (ps : List PairData) (bytes : List ℕ) (a b : Report) → IsWellMadeSystem d
         → Judged d ps bytes a → Judged d ps bytes b → AreOneAnswer a b }
 {}
 
-/// The bytes of a certificate within the limit come to an answer. So the answer to a check is this one, but that values
-/// may exceed both limits in one node.
+/// The bytes of a certificate within the limit come to an answer. So the answer to a check is this one, except where
+/// values exceed both limits in one node.
 pub fn each_check_has_an_answer()
     ensures { (d : SystemData) (ps : List PairData) (bytes : List ℕ) → IsWellMadeSystem d → length bytes ≤ certificate_limit
         → (o : Report) × Judged d ps bytes o }

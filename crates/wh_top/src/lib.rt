@@ -1,4 +1,4 @@
-//! The program's one call: words in, one text and a status out.
+//! The program's one call: `run` takes words, files and a sink, and answers with a status.
 #![tactic(auto)]
 
 mod laws;

@@ -1,4 +1,4 @@
-//! The program's one call.
+//! The one function that the program calls: `run` takes words, files and a sink, and writes one text.
 
 ghost use Rattle.std.specs.Prelude.{◌≡◌, ◌++◌, ℕ, List, Some, map, codes, string_bytes};
 ghost use Rattle.wh_answer.specs.Texts.{report_text};

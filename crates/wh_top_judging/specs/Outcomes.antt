@@ -1,4 +1,4 @@
--- When each answer of a run comes.
+-- When each answer of a run comes, told by the bytes of the two files.
 use Rattle.std.specs.Prelude.{ℕ, ◌≡◌, ◌<◌, ◌≤◌, List, ◌++◌, length, Option, Some}
 use Rattle.wh_types.specs.Limits.{system_limit, certificate_limit}
 use Rattle.wh_io.specs.Outside.{Rose}
@@ -38,7 +38,7 @@ pub record Shelves : Type 0 where
 abbrev pub Told : Option (List ℕ) → (List ℕ → Type 0) → Type 0
 Told held P = (bytes : List ℕ) → held ≡ Some bytes → P bytes
 
--- these are the bytes of the file, within the limit
+-- the bytes are those of the file, within the limit
 abbrev pub AreWithin : ℕ → List ℕ → List ℕ → Type 0
 AreWithin limit bytes held = (bytes ≡ held) × (length held ≤ limit)
 
@@ -73,8 +73,7 @@ abbrev pub IsNo : Cert → Type 0
 IsNo (yes version ranks pairs nodes) = ⊥
 IsNo (no term steps at puts) = Unit {0}
 
--- this is the first condition that is false of the certificate, with names in place of numbers, and no value exceeds a
--- limit before
+-- the named rejection is the first condition that is false of the certificate, and no value exceeds a limit before
 abbrev pub IsRejectedFor : SystemData → List PairData → Cert → NamedRejection → Type 0
 IsRejectedFor d ps c named = (r : conditions.Rejected) × IsFirstFault with_limits d ps c (check.Rejected r) × (named ≡ named_row d r)
 

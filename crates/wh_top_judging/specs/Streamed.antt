@@ -22,6 +22,6 @@ pub record HaveComeTo (d : SystemData) (ps : List PairData) (r : CertReader) (w 
 abbrev pub HasComeTo : SystemData → List PairData → Judge → List ℕ → Type 0
 HasComeTo d ps judge bytes = HaveComeTo d ps judge.reader judge.walk bytes
 
--- this is what the bytes of the certificate's file come to, within their limit
+-- the report says what the bytes of the certificate's file, within their limit, come to
 abbrev pub IsJudgedIn : Option (List ℕ) → SystemData → List PairData → Report → Type 0
 IsJudgedIn held d ps o = (bytes : List ℕ) × Told held (AreWithin certificate_limit bytes) × Judged d ps bytes o

@@ -1,4 +1,4 @@
--- What is told of an answer, and the text that shows a system.
+-- The status and the text of an answer, and the text of `show`.
 use Rattle.std.specs.Prelude.{ℕ, ◌≡◌, List, ◌++◌, codes, Result, Ok, Err}
 use Rattle.wh_types.specs.declared.want.Or.{Or}
 use Rattle.wh_types.specs.declared.want.Or.TheVariants.{NoMemory, Because}

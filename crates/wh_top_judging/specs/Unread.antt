@@ -1,4 +1,4 @@
--- What a file that was not read, or not understood, comes to.
+-- The answers where a file was not read, or is not the text of a system or a certificate.
 use Rattle.std.specs.Prelude.{ℕ, ◌≡◌, ◌<◌, List, length, Option}
 use Rattle.wh_types.specs.Limits.{certificate_limit}
 use Rattle.wh_types.specs.declared.want.Or.{Or}

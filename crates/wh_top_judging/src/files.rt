@@ -29,7 +29,7 @@ const SYSTEM_LIMIT: u64 = 1_048_576;
 /// How many bytes a certificate file may have.
 pub const CERTIFICATE_LIMIT: u64 = 8_388_608;
 
-/// A system and its dependency pairs.
+/// A system and its dependency pairs, as a command needs them.
 #[derive(Drop)]
 pub struct Problem {
     /// The system.
@@ -38,7 +38,7 @@ pub struct Problem {
     pub pairs: PairList,
 }
 
-/// The system of which the file of that name is a text, with its dependency pairs, or why there is none.
+/// The system whose text the file of that name is, with its dependency pairs, or why there is none.
 pub fn problem_in<S: Shelf>(alloc: Global, shelf: &mut S, file: &str) -> Result<Problem, Or<Report>>
     ensures read { MatchOr result
         (λ problem. IsProblemIn (S.held shelf.old file.now) (system_data problem.system) (pairs_data problem.pairs))
@@ -63,7 +63,7 @@ pub fn pairs_of(alloc: Global, system: &System) -> Result<PairList, Or<Report>>
     }
 }
 
-/// The system of which the file of that name is a text, or why there is none. Of its pairs nothing is asked.
+/// The system whose text the file of that name is, or why there is none. Its pairs are not looked at.
 pub fn system_in<S: Shelf>(alloc: Global, shelf: &mut S, file: &str) -> Result<System, Or<Report>>
     ensures read { MatchOr result (λ system. IsSystemIn (S.held shelf.old file.now) (system_data system))
         (StandsByText (outside (S.held shelf.old) (S.faults shelf.old) (S.faults shelf.new)) file.now) }

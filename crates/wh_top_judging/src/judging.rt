@@ -68,8 +68,8 @@ fn shown(alloc: Global, problem: &Problem) -> Result<Bytes, AllocError>
     Ok(text)
 }
 
-/// What a certificate that was read comes to, for a system with its pairs: that it is accepted, or why it is not, with
-/// names.
+/// The answer about a certificate that was read, for a system with its pairs: that it is accepted, or why it is not,
+/// with names.
 pub fn weigh(
     alloc: Global,
     problem: &Problem,
@@ -86,7 +86,7 @@ pub fn weigh(
     }
 }
 
-/// The report of what a check came to for the system, with names in place of numbers.
+/// The report of a check's answer about the system, with names in place of numbers.
 pub fn told_of_check(
     alloc: Global,
     system: &System,

@@ -1,4 +1,5 @@
-//! Files read and what they come to: a system with its pairs, or a report; a certificate judged; a system shown.
+//! Commands that read a system and a certificate: files become a system with its pairs or a report, a certificate is
+//! judged, and a system is shown.
 #![tactic(auto)]
 
 mod files;

@@ -24,7 +24,7 @@ use wh_types::Or;
 /// How many bytes are read at once.
 const PIECE: usize = 4096;
 
-/// A certificate that is judged as its bytes come. What its lines say is looked at where they are whole, and not kept.
+/// A certificate that is judged as its bytes come. Each item is looked at once its lines are whole, and not kept.
 #[derive(Drop)]
 pub struct Judge {
     reader: CertReader,
@@ -32,7 +32,7 @@ pub struct Judge {
 }
 
 impl Judge {
-    /// Before the first byte.
+    /// The judge before the first byte.
     pub fn new(alloc: Global) -> Judge
         ensures { (d : SystemData) (ps : List PairData) → HasComeTo d ps result [] }
     {
@@ -42,7 +42,7 @@ impl Judge {
         }
     }
 
-    /// All of these bytes more.
+    /// Takes all of these bytes.
     pub fn take_all(&mut self, problem: &Problem, piece: &[u8]) -> Result<(), AllocError>
         requires pairs { HasPairs (system_data problem.now.system) (pairs_data problem.now.pairs) }
         requires few { (bytes : List ℕ) × HasComeTo (system_data problem.now.system) (pairs_data problem.now.pairs) self.old bytes
@@ -58,7 +58,7 @@ impl Judge {
         Ok(())
     }
 
-    /// Bytes up to the last of an item, or all of them; how many were taken.
+    /// Takes bytes up to the last one of an item, or all of them; the answer is how many were taken.
     fn take(&mut self, problem: &Problem, bytes: &[u8]) -> Result<usize, AllocError>
         requires pairs { HasPairs (system_data problem.now.system) (pairs_data problem.now.pairs) }
         requires few { (before : List ℕ) × HasComeTo (system_data problem.now.system) (pairs_data problem.now.pairs) self.old before
@@ -85,7 +85,7 @@ impl Judge {
         }
     }
 
-    /// What the bytes come to, which were all.
+    /// The report on the certificate, where all its bytes were taken.
     pub fn finish(self, alloc: Global, problem: &Problem) -> Result<Report, AllocError>
         requires pairs { HasPairs (system_data problem.now.system) (pairs_data problem.now.pairs) }
         requires few { (bytes : List ℕ) × HasComeTo (system_data problem.now.system) (pairs_data problem.now.pairs) self bytes
@@ -101,8 +101,8 @@ impl Judge {
     }
 }
 
-/// What the certificate in the file of that name comes to for the system, or why its file was not read. A fault of the
-/// file comes before all that is wrong with its bytes.
+/// The report on the certificate in the file of that name, for the system, or why its file was not read. A fault of the
+/// file comes before all faults of its bytes.
 pub fn judge_file<S: Shelf>(
     alloc: Global,
     shelf: &mut S,

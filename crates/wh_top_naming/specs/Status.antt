@@ -1,4 +1,4 @@
--- The number of each status, and the status of each answer.
+-- The exit status of each answer, as a number.
 use Rattle.std.specs.Prelude.{ℕ}
 use Rattle.wh_answer.specs.declared.report.Report.{Report}
 use Rattle.wh_answer.specs.declared.report.Report.TheVariants.{Yes, No, Rejected, Maybe, Refused, BadWords, ReadFault, OutOfMemory, TooLong, Overflow, TooLarge}

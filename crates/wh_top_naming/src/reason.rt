@@ -1,4 +1,4 @@
-//! The words for the reasons why a text is refused.
+//! From the reader's reasons for refusing a text to the words of reports.
 
 ghost use Rattle.std.specs.Prelude.{◌≡◌};
 ghost use Rattle.wh_top_naming.specs.Rows.{reason_of};

@@ -11,7 +11,8 @@ use wh_checker::Rejected;
 use wh_system::System;
 use wh_text::Name;
 
-/// The rejection with names. What it names must be there, as it is with each rejection of the check.
+/// The rejection with names. The symbols and meta-variables that it names must be there, as they are in each rejection
+/// of the check.
 pub fn named_rejection(
     alloc: Global,
     system: &System,

@@ -1,4 +1,4 @@
-//! How a run ended.
+//! The status of a run, which becomes the exit status of the program.
 
 ghost use Rattle.std.specs.Prelude.{◌≡◌};
 ghost use Rattle.wh_top_naming.specs.Status.{number_of_status, status_of};
@@ -18,7 +18,7 @@ pub enum Status {
     Refused,
     /// 4: a file could not be read.
     ReadFault,
-    /// 5: the output could not be written; a front part of it may have been.
+    /// 5: the output could not be written; the first bytes of it may have been.
     WriteFault,
     /// 6: there was no memory.
     NoMemory,

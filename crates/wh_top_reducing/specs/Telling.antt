@@ -1,4 +1,4 @@
--- The text that tells how a term of a system reduces.
+-- The text that `reduce` writes: how a term of a system reduces.
 use Rattle.std.specs.Prelude.{ℕ, ◌≡◌, List, [], ◌∷◌, ◌++◌, codes}
 use Rattle.std.specs.Fmt.{decimal}
 use Rattle.wh_terms.specs.Tree.{Tm}
@@ -36,7 +36,7 @@ reduced_text d n u e =
 abbrev pub GivesNone : SystemData → List ℕ → Type 0
 GivesNone d bytes = (t : Tm) → Gives d bytes t → ⊥
 
--- the text tells how t reduces by at most so many leftmost-outermost steps
+-- the text tells how t reduces by at most `asked` leftmost-outermost steps
 pub record TellsOf (d : SystemData) (t : Tm) (asked : ℕ) (text : List ℕ) : Type 0 where
   pub steps : ℕ
   pub last : Tm
@@ -44,6 +44,6 @@ pub record TellsOf (d : SystemData) (t : Tm) (asked : ℕ) (text : List ℕ) : T
   pub reduces : Reduces d.rules t asked steps last end
   pub text_is : text ≡ reduced_text d steps last end
 
--- the same of the term of which the bytes are the text
+-- the text tells how the term whose text the bytes are reduces by at most `asked` steps
 abbrev pub TellsReduced : SystemData → List ℕ → ℕ → List ℕ → Type 0
 TellsReduced d bytes asked text = (t : Tm) × Gives d bytes t × TellsOf d t asked text

@@ -1,4 +1,4 @@
-//! The term that a text gives.
+//! The term that a word of the command line spells.
 
 ghost use Rattle.std.specs.Prelude.{◌≡◌, MatchOption, Some};
 ghost use Rattle.wh_types.specs.Outcome.{MatchOr};
@@ -19,7 +19,7 @@ use wh_types::Or;
 #[derive(Drop)]
 pub struct NotATerm;
 
-/// The term of the system of which the bytes are the text.
+/// The term of the system whose text the bytes are.
 pub fn given_term(alloc: Global, system: &System, text: &[u8]) -> Result<Term, Or<NotATerm>>
     ensures { MatchOr result (λ term. Gives (system_data system.now) text.now (tm term))
         (λ _. GivesNone (system_data system.now) text.now) }

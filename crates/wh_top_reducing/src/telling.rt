@@ -1,4 +1,4 @@
-//! The lines that tell of a reduction.
+//! The three lines that `reduce` writes about a term.
 
 ghost use Rattle.std.specs.Prelude.{◌≡◌, ℕ, IfOk};
 ghost use Rattle.wh_types.specs.Outcome.{MatchOr};
@@ -18,8 +18,8 @@ use wh_terms::Term;
 use wh_text::{print_number, print_term};
 use wh_types::{Bytes, Or};
 
-/// How the term of the system of which the bytes are the text reduces by at most that many leftmost-outermost steps, in
-/// three lines: how many steps are taken, the last term, and why no step more is taken.
+/// How the term that `text` spells in the system reduces by at most `steps` leftmost-outermost steps, in three lines:
+/// how many steps are taken, the last term, and why no further step is taken.
 pub fn reduced_text(
     alloc: Global,
     system: &System,
@@ -32,7 +32,7 @@ pub fn reduced_text(
     Ok(told(alloc, system, &given, steps)?)
 }
 
-// The same of the term itself.
+// The three lines about the term itself.
 fn told(alloc: Global, system: &System, term: &Term, steps: u32) -> Result<Bytes, AllocError>
     requires typed { WellTyped (system_data system.now).symbols (tm term.now) }
     requires fits { Fits (tm term.now) }

@@ -30,23 +30,23 @@ pub record IsRead (s : Shelves) (file : List ℕ) (limit : ℕ) (bytes : List �
   pub calm : Rose (s.before file) (s.after file) → ⊥
   pub within : length bytes ≤ limit
 
--- it was read, and is a text of this system
+-- the file was read, and is a text of this system
 pub record HoldsText (s : Shelves) (file : List ℕ) (d : SystemData) : Type 0 where
   pub bytes : List ℕ
   pub read : IsRead s file system_limit bytes
   pub reads : Reads bytes d
 
--- it was read, and is a text of this system, which has these pairs
+-- the file was read, and is a text of this system, which has these pairs
 pub record HoldsSystem (s : Shelves) (file : List ℕ) (d : SystemData) (ps : List PairData) : Type 0 where
   pub bytes : List ℕ
   pub read : IsRead s file system_limit bytes
   pub reads : Reads bytes d
   pub has : HasPairs d ps
 
--- then a check answers what the certificate comes to; a search writes a certificate that a check accepts, or says why
--- there is none; a system is shown; a generated system is always answered; a term is reduced where the word is the text
--- of one, and else rejected; a certificate that a check accepts is upgraded to one that it accepts, if that is not too
--- long; and the search for a refutation is always told of (ours)
+-- the answer where nothing goes wrong outside. A check answers what the certificate comes to; a search writes a
+-- certificate that a check accepts, or says why there is none; a system is shown; a generated system is always
+-- answered; a term is reduced where the word is the text of one, and else rejected; a certificate that a check accepts
+-- is upgraded to one that it accepts, if that is not too long; and the search for a refutation is always told of (ours)
 abbrev pub IsComplete : Shelves → Request → Status → List ℕ → Type 0
 IsComplete s (check file cert) status text =
     (d : SystemData) (ps : List PairData) (bytes : List ℕ) → HoldsSystem s file d ps → IsRead s cert certificate_limit bytes

@@ -1,4 +1,4 @@
--- What the search for a proof comes to for a generated system.
+-- The text of `gen`: the outcome of the search for a proof of a generated system.
 use Rattle.std.specs.Prelude.{ℕ, ◌≡◌, ◌++◌, List, [], length, codes}
 use Rattle.std.specs.Fmt.{decimal}
 use Rattle.wh_system.specs.Systems.{SystemData}
@@ -53,7 +53,7 @@ pub record ShowsGenerated (n : ℕ) (status : Status) (text : List ℕ) : Type 0
   pub text_is : text ≡ generated_text n (length (gen_data n).rules) (length pairs) nodes answer
   pub status_is : status ≡ Answered
 
--- it has too many pairs for that
+-- the report says that the generated system has too many pairs
 abbrev pub StandsForGenerated : ℕ → Report → Type 0
 StandsForGenerated n (Refused TooManyPairs at) = (at ≡ 0) × HasTooManyPairs (gen_data n)
 StandsForGenerated n _ = ⊥

@@ -23,7 +23,7 @@ use Rattle.wh_top_judging.specs.Outcomes.{Shelves, BeginsWith, ToldSystem, Stand
 abbrev pub IsProofText : SystemData → List PairData → List ℕ → Type 0
 IsProofText d ps text = (c : Cert) × IsProof d ps c × CertText text c
 
--- the text is that of the certificate of a loop of at most so many steps
+-- the text is that of the certificate of a loop of at most `depth` steps
 abbrev pub IsLoopText : SystemData → ℕ → List ℕ → Type 0
 IsLoopText d depth text = (c : Cert) × IsLoopProof d depth c × CertText text c
 

@@ -20,7 +20,7 @@ use Rattle.wh_top_judging.specs.Outcomes.{Shelves, BeginsWith, ToldSystem}
 use Rattle.wh_top_replies.specs.Causes.{named_cause}
 use Rattle.wh_top_replies.specs.Proving.{CauseIsThere}
 
--- the bounds of the search: so many tries, and else what is usual
+-- the bounds of the search: n tries, and else the usual ones
 abbrev pub options_with : ℕ → Options
 options_with n = record { tries = n; depth = usual depth; visited = usual visited }
 
@@ -60,7 +60,7 @@ TellsRefuted d ps o text = (v : Verdict) × IsVerdict d ps o v × (text ≡ refu
 abbrev pub BeginsRefuted : List ℕ → Type 0
 BeginsRefuted text = BeginsWith (codes "REFUTED") text ⊎ BeginsWith (codes "UN") text
 
--- it tells that of the system in the file
+-- the text tells the verdict on the system in the file, and begins with its word
 pub record ShowsRefuted (s : Shelves) (file : List ℕ) (o : Options) (status : Status) (text : List ℕ) : Type 0 where
   pub told : ToldSystem (s.held file) (λ d ps. TellsRefuted d ps o text)
   pub begins : BeginsRefuted text

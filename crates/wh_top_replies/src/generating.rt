@@ -1,4 +1,4 @@
-//! The search for a proof of a generated system.
+//! The reply to `gen`: the search for a proof of a generated system.
 
 ghost use Rattle.std.specs.Prelude.{◌≡◌, ◌≤◌, ◌++◌, IfOk, List, OnOk, length};
 ghost use Rattle.wh_types.specs.Limits.{most_generated};
@@ -37,14 +37,15 @@ const USUAL: Options = Options {
     visited: 500,
 };
 
-/// What the search for a proof came to: how many nodes the certificate has, and the last line.
+/// The outcome of the search for a proof: how many nodes the certificate has, and the last line.
 #[derive(Drop)]
 struct Outcome {
     nodes: u32,
     answer: Bytes,
 }
 
-/// How many rules and pairs the generated system with the number has, and what the search for a proof of it comes to.
+/// The text that `gen` writes: how many rules and pairs the generated system with the number has, and the outcome of
+/// the search for a proof of it.
 pub fn generated(alloc: Global, n: u32) -> Result<Bytes, Or<Report>>
     requires some { 1 ≤ n }
     requires few { n ≤ most_generated }
@@ -54,7 +55,7 @@ pub fn generated(alloc: Global, n: u32) -> Result<Bytes, Or<Report>>
     answered(alloc, n, &system)
 }
 
-// Finds the pairs of the generated system, and tells what the search for a proof comes to.
+// Finds the pairs of the generated system, and makes the text with the outcome of the search for a proof.
 fn answered(alloc: Global, n: u32, system: &System) -> Result<Bytes, Or<Report>>
     requires { system_data system.now ≡ gen_data n }
     ensures { MatchOr result (ShowsGenerated n Answered) (StandsForGenerated n) }
@@ -63,7 +64,7 @@ fn answered(alloc: Global, n: u32, system: &System) -> Result<Bytes, Or<Report>>
     Ok(shown(alloc, n, system, &pairs)?)
 }
 
-// Tells how many rules and pairs the generated system has, and what the search for a proof comes to.
+// The text: how many rules and pairs the generated system has, and the outcome of the search for a proof.
 fn shown(alloc: Global, n: u32, system: &System, pairs: &PairList) -> Result<Bytes, AllocError>
     requires system { system_data system.now ≡ gen_data n }
     requires pairs { HasPairs (system_data system.now) (pairs_data pairs.now) }
@@ -87,7 +88,7 @@ fn made(alloc: Global, n: u32) -> Result<System, AllocError>
     }
 }
 
-// What the search for a proof comes to.
+// Searches for a proof of the generated system.
 fn searched(alloc: Global, system: &System, pairs: &PairList) -> Result<Outcome, AllocError>
     requires { HasPairs (system_data system.now) (pairs_data pairs.now) }
     ensures { IfOk result (λ outcome. Comes (system_data system.now) (pairs_data pairs.now) outcome.nodes outcome.answer) }
@@ -96,7 +97,7 @@ fn searched(alloc: Global, system: &System, pairs: &PairList) -> Result<Outcome,
     outcome_of(alloc, system, &answer)
 }
 
-// What the answer of the search comes to.
+// The outcome that the answer of the search stands for.
 fn outcome_of(alloc: Global, system: &System, answer: &Answer) -> Result<Outcome, AllocError>
     requires { (ps : List PairData) × IsAnswer (system_data system.now) ps usual_options answer.now }
     ensures { (ps : List PairData) → IsAnswer (system_data system.now) ps usual_options answer.now

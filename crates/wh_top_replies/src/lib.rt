@@ -1,4 +1,4 @@
-//! What each command of the program replies: a status and a text.
+//! The replies to the commands of the program: a status and a text for each.
 #![tactic(auto)]
 
 mod generating;

@@ -1,4 +1,4 @@
-//! Searching for a proof of termination of the system in a file, or for a loop.
+//! The reply to `prove`: a certificate of termination of the system in a file, or of a loop, or why there is neither.
 
 ghost use Rattle.std.specs.Prelude.{◌≡◌, ◌≤◌, ◌<◌, ◌⊎◌, ℕ, All, List, IfOk, length, map, codes};
 ghost use Rattle.wh_types.specs.Limits.{certificate_limit};

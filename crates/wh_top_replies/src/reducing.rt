@@ -1,4 +1,4 @@
-//! Reducing a term of the system in a file.
+//! The reply to `reduce`: a term of the system in a file is reduced.
 
 ghost use Rattle.std.specs.Prelude.{◌≡◌, ℕ, List, IfOk, codes};
 ghost use Rattle.wh_types.specs.Outcome.{MatchOr};
@@ -15,9 +15,9 @@ use wh_top_judging::system_in;
 use wh_top_reducing::reduced_text;
 use wh_types::{Bytes, Or};
 
-/// The text that tells how the term reduces by the rules of the system in the file, by at most that many
-/// leftmost-outermost steps, or why there is none: what the file decides, and after that whether the word is the text
-/// of a well-typed term of the system that fits.
+/// The text that tells how the term reduces by the rules of the system in the file, by at most `steps`
+/// leftmost-outermost steps, or why there is none. First the file decides, and then whether the word is the text of a
+/// well-typed term of the system that fits.
 pub fn reduce_file<S: Shelf>(
     alloc: Global,
     shelf: &mut S,

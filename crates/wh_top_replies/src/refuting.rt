@@ -1,4 +1,4 @@
-//! Refuting projections for the set of pairs on which the search for a proof is stuck.
+//! The reply to `refute`: projections are refuted for the set of pairs on which the search for a proof is stuck.
 
 ghost use Rattle.std.specs.Prelude.{◌≡◌, ◌≤◌, ◌++◌, ℕ, List, IfOk};
 ghost use Rattle.wh_types.specs.Outcome.{MatchOr};
@@ -38,7 +38,8 @@ pub fn refute_file<S: Shelf>(
     Ok(refuted_in(alloc, &problem, options)?)
 }
 
-// Tells what the search for a proof of the system comes to, and whether projections are refuted where it is stuck.
+// Makes the text: the outcome of the search for a proof of the system, and whether projections are refuted where it is
+// stuck.
 fn refuted_in(alloc: Global, problem: &Problem, options: &Options) -> Result<Bytes, AllocError>
     requires pairs { HasPairs (system_data problem.now.system) (pairs_data problem.now.pairs) }
     requires tries { options.now.tries ≤ 1000000 }

@@ -1,4 +1,4 @@
-//! The reply to each command.
+//! The reply to each command: `reply_to` calls the function of the command.
 
 ghost use Rattle.std.specs.Prelude.{◌≡◌, ℕ, List, IfOk};
 ghost use Rattle.wh_top_words.specs.Asked.{bounds_of, request};
@@ -35,7 +35,7 @@ pub struct Reply {
     pub text: Bytes,
 }
 
-/// The reply to a command, and no other cause than want of memory why there is none.
+/// The reply to a command; want of memory is the only cause why there is none.
 pub fn reply_to<S: Shelf>(
     alloc: Global,
     shelf: &mut S,
@@ -92,7 +92,7 @@ fn options_of(limits: &Limits) -> Options
     }
 }
 
-// The usual bounds of a search with so many tries.
+// The usual bounds of a search, with this number of tries.
 fn options_with(tries: u64) -> Options
     ensures { result ≡ options_with tries }
 {

@@ -1,4 +1,4 @@
--- The text of a certificate, as an output.
+-- The text of a certificate as an output, within the limit of outputs.
 use Rattle.std.specs.Prelude.{ℕ, ◌≤◌, ◌<◌, List, length, Result, Ok, Err}
 use Rattle.wh_types.specs.Limits.{certificate_limit}
 use Rattle.wh_types.specs.declared.want.Or.{Or}

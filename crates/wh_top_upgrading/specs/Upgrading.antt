@@ -28,7 +28,7 @@ IsNotUpgradedFor d ps c No = ⊥
 IsNotUpgradedFor d ps c (TooLong Output) = (text : List ℕ) × IsUpgradedText d ps c text × (certificate_limit < length text)
 IsNotUpgradedFor d ps c o = Weighed d ps c o
 
--- the same for the bytes of a certificate
+-- the report says why the certificate with these bytes is not upgraded
 abbrev pub IsNotUpgraded : SystemData → List PairData → List ℕ → Report → Type 0
 IsNotUpgraded d ps bytes (Rejected (Syntax at)) = FaultAt bytes at
 IsNotUpgraded d ps bytes o = (c : Cert) × CertText bytes c × IsNotUpgradedFor d ps c o

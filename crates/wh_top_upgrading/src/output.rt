@@ -1,4 +1,4 @@
-//! The text of a certificate, as an output.
+//! The text of a certificate, as far as an output may be long.
 
 ghost use Rattle.std.specs.Prelude.{◌≤◌, IfOk, length};
 ghost use Rattle.wh_types.specs.Limits.{certificate_limit};

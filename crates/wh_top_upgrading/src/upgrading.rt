@@ -25,9 +25,9 @@ use wh_io::Shelf;
 use wh_top_judging::{Problem, certificate_in, problem_in, weigh};
 use wh_types::{Bytes, Or};
 
-/// The text of the certificate in the second file as one of the second version of the format, where a check accepts it
-/// for the system in the first file; else why there is none, as the check tells it, or that this text is too long. Both
-/// files are read.
+/// The text of the certificate in the second file, upgraded to the second version of the format, where a check accepts
+/// it for the system in the first file. Else the report says why there is none: that of the check, or that the text is
+/// too long. Both files are read.
 pub fn upgrade_files<S: Shelf>(
     alloc: Global,
     shelf: &mut S,
@@ -45,7 +45,7 @@ pub fn upgrade_files<S: Shelf>(
     upgraded_text(alloc, &problem, certificate.as_slice())
 }
 
-// The same of a system and of the bytes of a certificate.
+// The upgraded text, or the report, for a system and the bytes of a certificate.
 fn upgraded_text(alloc: Global, problem: &Problem, bytes: &[u8]) -> Result<Bytes, Or<Report>>
     requires length { length bytes.now ≤ certificate_limit }
     requires pairs { HasPairs (system_data problem.now.system) (pairs_data problem.now.pairs) }
@@ -63,7 +63,7 @@ fn upgraded_text(alloc: Global, problem: &Problem, bytes: &[u8]) -> Result<Bytes
     }
 }
 
-// The same of a certificate that was read.
+// The upgraded text, or the report, for a system and a certificate that was read.
 fn upgraded_for(
     alloc: Global,
     problem: &Problem,

@@ -1,4 +1,4 @@
--- What a command asks for.
+-- The request of a command of the program.
 use Rattle.wh_top_words.specs.Words.{Bounds, Request, check, prove, show, gen, reduce, upgrade, refute}
 use Rattle.wh_top_words.specs.declared.words.Command.{Command}
 use Rattle.wh_top_words.specs.declared.words.Command.TheVariants.{Check, Prove, Show, Gen, Reduce, Upgrade, Refute}

@@ -54,8 +54,8 @@ pub record Sums (kept : Kept) (items : List Item) : Type 0 where
   pub numbers : (s : Setting) → numbers_for s items ≡ listed (number_of kept s)
   pub within : AllWithin kept
 
--- so much can be kept: at most two words by themselves, and for each setting at most one number, which may be asked for
--- (ours)
+-- the items can be kept: at most two words by themselves, and for each setting at most one number, which may be asked
+-- for (ours)
 pub record Fits (items : List Item) : Type 0 where
   pub words : length (words_in items) ≤ 2
   pub numbers : (s : Setting) → (numbers_for s items ≡ []) ⊎ ((n : ℕ) × (numbers_for s items ≡ n ∷ []) × Within s n)

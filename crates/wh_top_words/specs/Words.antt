@@ -113,8 +113,8 @@ pub record SetTries (items : List Item) (n : ℕ) : Type 0 where
 
 -- what the words may ask for: to check a certificate for a system, to search for a proof of termination or a loop
 -- within bounds, to show a system, to prove the generated system with a number, to reduce a term of a system by at most
--- that many steps, to write a certificate in the second version of the format, or to refute that a projection helps
--- where a search is stuck, by at most that many clauses
+-- n steps, to write a certificate in the second version of the format, or to refute that a projection helps where a
+-- search is stuck, by at most n clauses
 pub data Request : Type 0 where
   check : (file cert : List ℕ) → Request
   prove : (file : List ℕ) (b : Bounds) → Request

@@ -1,4 +1,4 @@
-//! What the words behind the command say.
+//! Sorting the words behind the command: words by themselves and options.
 
 ghost use Rattle.std.specs.Prelude.{◌≡◌, ◌≢◌, ◌≤◌, [], ◌∷◌, MatchOption, codes, length, map, string_bytes};
 ghost use Rattle.wh_top_words.specs.Kept.{Knows, LeadsNowhere, LeadsTo, SayNone};

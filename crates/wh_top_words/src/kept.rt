@@ -1,4 +1,4 @@
-//! What is kept of the words behind the command.
+//! The words behind the command, sorted into words by themselves and numbers of options.
 
 ghost use Rattle.std.specs.Prelude.{ℕ, ◌≡◌, ◌↔◌, ◌++◌, List, [], ◌∷◌, All, IsTrue, MatchOption, Some, None, map, string_bytes};
 ghost use Rattle.wh_top_words.specs.Kept.{Adds, AddsNone, Sets, SetsNo, SetsNoBounds, SetsNone, SetsTriesAlone, Sums};
@@ -11,11 +11,11 @@ use wh_answer::long_number;
 /// The words by themselves, at most two.
 #[derive(Clone, Copy)]
 pub enum Alone<'a> {
-    /// None.
+    /// There is none.
     Nothing,
-    /// One.
+    /// There is one.
     One(&'a str),
-    /// Two, in order.
+    /// There are two, in this order.
     Two(&'a str, &'a str),
 }
 
@@ -24,13 +24,13 @@ pub enum Alone<'a> {
 pub struct Kept<'a> {
     /// The words by themselves.
     pub alone: Alone<'a>,
-    /// What `--tries` sets.
+    /// The number that `--tries` sets.
     pub tries: Option<u64>,
-    /// What `--depth` sets.
+    /// The number that `--depth` sets.
     pub depth: Option<u64>,
-    /// What `--visited` sets.
+    /// The number that `--visited` sets.
     pub visited: Option<u64>,
-    /// What `--steps` sets.
+    /// The number that `--steps` sets.
     pub steps: Option<u64>,
 }
 

@@ -1,4 +1,4 @@
-//! The law of words, the contract of a function that does nothing.
+//! The law of the command line: words ask for one request at most.
 
 ghost use Rattle.std.specs.Prelude.{◌≡◌, ℕ, List};
 ghost use Rattle.wh_top_words.specs.Words.{Asks, Request};

@@ -1,4 +1,4 @@
-//! The words that the program is run with.
+//! The words of the command line, and the commands that they ask for.
 #![tactic(auto)]
 
 mod items;

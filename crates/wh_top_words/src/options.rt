@@ -1,4 +1,4 @@
-//! What one word is: one that stands by itself, or an option.
+//! Single words: one that stands by itself, or an option.
 
 ghost use Rattle.std.specs.Prelude.{◌≡◌, ◌↔◌, IsTrue, MatchOption};
 ghost use Rattle.wh_top_words.specs.Options.{IsNoOption, IsOption, NamesNone, which};
@@ -43,7 +43,7 @@ pub fn is_plain(word: &str) -> bool
     }
 }
 
-/// The option that a word is, and what stands behind its `=`.
+/// The option that a word is, and the part behind its `=`.
 pub fn read_option(word: &str) -> Option<(Setting, Option<&str>)>
     ensures { MatchOption result (IsNoOption word.now) (λ found. IsOption word.now (which found.0) found.1) }
 {

@@ -1,4 +1,4 @@
-//! What the words ask for.
+//! The command that the words of the command line ask for. `read_words` is the main function.
 
 ghost use Rattle.std.specs.Prelude.{ℕ, ◌≡◌, ◌≤◌, MatchOption, codes, map, string_bytes, unwrap_or};
 ghost use Rattle.std.specs.Fmt.{decimal};
@@ -26,31 +26,31 @@ pub struct Limits {
 /// What the words ask for.
 #[derive(Clone, Copy)]
 pub enum Command<'a> {
-    /// To check a certificate for a system.
+    /// Check a certificate for a system.
     Check {
         /// The name of the system file.
         file: &'a str,
         /// The name of the certificate file.
         cert: &'a str,
     },
-    /// To search for a proof of termination of a system, or for a loop.
+    /// Search for a proof of termination of a system, or for a loop.
     Prove {
         /// The name of the system file.
         file: &'a str,
         /// What bounds the search.
         limits: Limits,
     },
-    /// To show a system.
+    /// Show a system.
     Show {
         /// The name of the system file.
         file: &'a str,
     },
-    /// To prove the generated system with this number.
+    /// Prove the generated system with this number.
     Gen {
         /// The number: 1 to 200.
         n: u32,
     },
-    /// To reduce a term of a system.
+    /// Reduce a term of a system.
     Reduce {
         /// The name of the system file.
         file: &'a str,
@@ -59,14 +59,14 @@ pub enum Command<'a> {
         /// How many steps are taken at most: 0 to 10,000.
         steps: u32,
     },
-    /// To write a certificate in the second version of the format, where it is accepted.
+    /// Write a certificate in the second version of the format, where it is accepted.
     Upgrade {
         /// The name of the system file.
         file: &'a str,
         /// The name of the certificate file.
         cert: &'a str,
     },
-    /// To refute that a projection drops a pair, where a search for a proof is stuck.
+    /// Refute that a projection drops a pair, where a search for a proof is stuck.
     Refute {
         /// The name of the system file.
         file: &'a str,

@@ -1,18 +1,18 @@
--- The limits, each in one place (ours).
+-- The limits on texts, systems, terms, certificates and values, each in one place (ours).
 use Rattle.std.specs.Prelude.{ℕ, ◌^◌}
 
--- a system file has at most so many bytes, and a certificate file
+-- the greatest length of a system file and of a certificate file, in bytes
 abbrev pub system_limit : ℕ
 system_limit = 1048576
 
 abbrev pub certificate_limit : ℕ
 certificate_limit = 8388608
 
--- what is read in one call has at most so many bytes
+-- the greatest number of bytes that one call reads
 abbrev pub most_bytes : ℕ
 most_bytes = 8388608
 
--- a name has at most so many bytes
+-- the greatest length of a name, in bytes
 abbrev pub longest_name : ℕ
 longest_name = 64
 
@@ -20,14 +20,14 @@ longest_name = 64
 abbrev pub greatest_number : ℕ
 greatest_number = 65535
 
--- in the text of a system terms and types nest at most so deep
+-- how deep terms and types may nest in the text of a system
 abbrev pub deepest_term : ℕ
 deepest_term = 400
 
 abbrev pub deepest_type : ℕ
 deepest_type = 16
 
--- a system has at most so many sorts, symbols, rules and pairs
+-- the greatest numbers of sorts, symbols, rules and dependency pairs of a system
 abbrev pub most_sorts : ℕ
 most_sorts = 256
 
@@ -40,11 +40,11 @@ most_rules = 1024
 abbrev pub most_pairs : ℕ
 most_pairs = 4096
 
--- a rule has at most so many meta-variables
+-- the greatest number of meta-variables of a rule
 abbrev pub most_metas : ℕ
 most_metas = 32
 
--- a type in a system, a meta-variable and a spine have at most so many arguments
+-- the greatest number of arguments of a type in a system, of a meta-variable and of a spine
 abbrev pub most_arguments : ℕ
 most_arguments = 32
 
@@ -55,7 +55,7 @@ greatest_height = 200
 abbrev pub greatest_size : ℕ
 greatest_size = 65536
 
--- in a certificate terms, types and polynomials nest at most so deep
+-- how deep terms, types and polynomials may nest in a certificate
 abbrev pub deepest_certificate_term : ℕ
 deepest_certificate_term = 200
 
@@ -65,7 +65,7 @@ deepest_certificate_type = 18
 abbrev pub deepest_certificate_polynomial : ℕ
 deepest_certificate_polynomial = 64
 
--- a type in a certificate has at most so many arguments
+-- the greatest number of arguments of a type in a certificate
 abbrev pub most_certificate_arguments : ℕ
 most_certificate_arguments = 64
 
@@ -73,7 +73,7 @@ most_certificate_arguments = 64
 abbrev pub coefficient_end : ℕ
 coefficient_end = 2 ^ 128
 
--- a normal polynomial that a check evaluates has at most this weight and nests at most so deep
+-- the greatest weight and the greatest nesting of a normal polynomial that a check evaluates
 abbrev pub greatest_weight : ℕ
 greatest_weight = 65536
 
@@ -84,6 +84,6 @@ deepest_value = 400
 abbrev pub greatest_searched : ℕ
 greatest_searched = 2048
 
--- a generated system has at most so many functions
+-- the greatest number of functions of a generated system
 abbrev pub most_generated : ℕ
 most_generated = 200

@@ -1,4 +1,4 @@
--- Words on the result of a call that may lack memory.
+-- What is said of the result of a call that may lack memory.
 use Rattle.std.specs.Prelude.{◌≡◌, Result, Ok, Err}
 use Rattle.wh_types.specs.declared.want.Or.{Or}
 use Rattle.wh_types.specs.declared.want.Or.TheVariants.{NoMemory, Because}

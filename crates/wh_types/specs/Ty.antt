@@ -14,7 +14,7 @@ abbrev pub arguments : Ty → List Ty
 arguments (sort s) = []
 arguments (a ⇒ b) = a ∷ arguments b
 
--- and its result, the sort `s`
+-- the sort `s` of the result
 abbrev pub result_sort : Ty → ℕ
 result_sort (sort s) = s
 result_sort (a ⇒ b) = result_sort b

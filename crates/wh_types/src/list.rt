@@ -1,4 +1,5 @@
-//! A list of items, of which the others are instances.
+//! A list of items that can grow at its end. The lists of numbers, of bytes, of types, of terms and of the other values
+//! of `wanda` are instances of it.
 
 ghost use Rattle.std.specs.Prelude.{◌≡◌, [], ◌∷◌, ◌++◌, IfOk, OnOk, OnErr};
 

@@ -1,5 +1,5 @@
-//! Numbers of 32 bits that count what stands in memory. One beyond these would count more than memory holds, and is
-//! told as want of memory.
+//! Counts as numbers of 32 bits. `counted` and `sum` fail where the result needs more than 32 bits: no memory holds as
+//! many things as it would count, so the callers get the error for want of memory.
 
 ghost use Rattle.std.specs.Prelude.{◌≡◌, ◌↔◌, ◌+◌, Contains, IfOk, IsTrue};
 

@@ -1,4 +1,4 @@
-//! Ranks: a number for each sort.
+//! Ranks of sorts: the table that a proof gives, with a number for each sort.
 
 ghost use Rattle.std.specs.Prelude.{◌≡◌, List, ℕ, ◌<◌, ◌^◌, length, slice_get, IfOk};
 

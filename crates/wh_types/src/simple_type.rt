@@ -1,4 +1,4 @@
-//! Simple types: a sort, or an arrow of two types.
+//! Simple types: a sort, or an arrow of two types. Terms, symbols and meta-variables have them; sorts are numbers.
 
 ghost use Rattle.std.specs.Prelude.{◌≡◌, ◌↔◌, ◌<◌, ◌^◌, IsTrue, IfOk, length, slice_get};
 ghost use Rattle.wh_types.specs.Erase.{ty};

@@ -1,14 +1,14 @@
-//! Want of memory beside a cause.
+//! Want of memory as an error of its own, beside the cause of a call.
 //!
-//! A call that can fail for a reason of its own, and that takes memory, answers `Or<E>`. Want of
-//! memory is a variant of its own, so it is never taken for a cause.
+//! A call that takes memory, and that can fail for a reason of its own, answers `Or<E>`. Want of memory is a variant
+//! beside the reasons, so no caller takes it for one of them.
 
 ghost use Rattle.std.specs.Prelude.{◌≡◌};
 ghost use Rattle.wh_types.specs.declared.want.Or.TheVariants.{NoMemory};
 
 use std::alloc::{AllocError, AllocFailed};
 
-/// Why a call that takes memory gave no value.
+/// Why a call that takes memory gave no value: it got no memory, or the cause that it names.
 #[derive(Drop)]
 pub enum Or<E> {
     /// There was no memory. No clause says when this comes.

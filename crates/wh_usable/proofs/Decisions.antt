@@ -122,7 +122,7 @@ module _ (rules : List RewriteRule) (listed : List ℕ) where
 
 -- rules and pairs
 
--- both sides of the rule have this sort
+-- the two sides of the rule have one sort
 abbrev AreOfASort : Symbols → RewriteRule → Type 0
 AreOfASort S r = (s : ℕ) × Typed S r.metas [] r.left (sort s) × Typed S r.metas [] r.right (sort s)
 

@@ -1,4 +1,4 @@
--- What a table says behind so many rules.
+-- What a table says behind some of the rules.
 use Rattle.std.proofs.Common.{◌≡◌, ◌<◌, ◌≤◌, ◌+◌, ◌↔◌, ◌⊎◌, ℕ, zero, suc, Bool, true, inl, inr, List, [], length, replicate, Contains, Some, slice_get, ap, refl, sym, subst, ◌∙◌, arith}
 use Rattle.std.proofs.lemmas.Option.{slice_get_within}
 use Rattle.wh_terms.specs.Tree.{Tm, bound, free, fun, meta, lam, app, head}

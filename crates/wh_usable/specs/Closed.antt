@@ -19,7 +19,7 @@ abbrev mutual
   HasSymbol f (app t u) = HasSymbol f t ⊎ HasSymbol f u
   HasSymbol f _ = ⊥
 
-  -- or in one of the trees
+  -- the symbol f stands in one of the trees
   pub HaveSymbol : ℕ → Tms → Type 0
   HaveSymbol f none = ⊥
   HaveSymbol f (more t ts) = HasSymbol f t ⊎ HaveSymbol f ts
@@ -64,7 +64,7 @@ AreClosedPairs T = (p : PairData) → InSet T.pairs T.set p → IsClosedPair T.s
 abbrev pub IsClosed : TaskData → Type 0
 IsClosed T = CoversAll T ⊎ (AreClosedRules T × AreClosedPairs T)
 
--- the numbers are those of rules, of which there are so many, each above the one before
+-- the numbers are those of rules, below `count`, each above the one before
 abbrev pub AreRulesInOrder : ℕ → List ℕ → Type 0
 AreRulesInOrder count numbers = IsIncreasing numbers × All (λ n. n < count) numbers
 

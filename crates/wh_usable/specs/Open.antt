@@ -5,7 +5,8 @@ use Rattle.wh_usable.specs.Closed.{IsClosedRule, IsClosedPair, AreClosedRules}
 use Rattle.wh_usable.specs.declared.closed.NotClosed.{NotClosed}
 use Rattle.wh_usable.specs.declared.closed.NotClosed.TheVariants.{Rule, Pair}
 
--- this number of the list is that of an element that is not Q, and those of the list before it are of elements that are
+-- the number n of the list is that of an element that is not Q, and the numbers before it are those of elements that
+-- are
 pub record IsFirstNot {A : Type 0} (Q : A → Type 0) (xs : List A) (numbers : List ℕ) (n : ℕ) : Type 0 where
   pub place : ℕ
   pub there : slice_get numbers place ≡ Some n

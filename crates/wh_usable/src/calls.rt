@@ -1,4 +1,4 @@
-//! Sides that call only symbols all whose rules are listed.
+//! Sides that call only symbols all whose rules are listed. A table says of each symbol whether that is so.
 
 ghost use Rattle.std.specs.Prelude.{◌≡◌, ◌↔◌, ℕ, IsTrue, List, MatchOption, length, map};
 ghost use Rattle.wh_terms.specs.Erase.{tm};
@@ -14,7 +14,7 @@ ghost use Rattle.wh_usable.specs.Tables.{IsCleared, IsTableOf};
 use wh_system::System;
 use wh_terms::Term;
 
-/// So many symbols a system has at most.
+/// The greatest number of symbols of a system.
 pub const MOST_SYMBOLS: usize = 1024;
 
 /// Says of each symbol in the table whether all its rules are listed.

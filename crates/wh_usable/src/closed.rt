@@ -26,12 +26,12 @@ use wh_usable_first_order::{is_of_a_sort, takes_sorts_first};
 pub enum NotClosed {
     /// The rule with this number is listed, and has a side that is not first-order, or calls a rule that is not listed.
     Rule {
-        /// Its number.
+        /// The number of the rule.
         rule: u32,
     },
     /// A pair of the set calls a rule that is not listed.
     Pair {
-        /// Its number.
+        /// The number of the pair.
         pair: u32,
     },
 }

@@ -1,4 +1,4 @@
-//! Lists of rules, each once and in order.
+//! The test that a list of rules has each rule once and in order.
 
 ghost use Rattle.std.specs.Prelude.{◌↔◌, ◌<◌, All, IsTrue, length};
 ghost use Rattle.wh_system.specs.SystemView.{system_data};

@@ -1,4 +1,4 @@
-//! First-order sides.
+//! The test that a side is first-order, as usable rules ask.
 
 ghost use Rattle.std.specs.Prelude.{◌↔◌, IsTrue, map};
 ghost use Rattle.wh_terms.specs.Erase.{declared_metas, symbols, tm};

@@ -17,7 +17,7 @@ IsFlatCall S (fun f) A = type_at S.funs f ≡ A
 IsFlatCall S (app t u) A = (s : ℕ) × IsFlatCall S t (sort s ⇒ A)
 IsFlatCall S _ A = ⊥
 
--- and it has all its arguments
+-- the tree is a symbol with all its arguments, for which its type has sorts
 abbrev pub IsWholeCall : Symbols → Tm → Type 0
 IsWholeCall S t = (s : ℕ) × IsFlatCall S t (sort s)
 

@@ -1,4 +1,4 @@
-//! Numbers that bound terms, where only the rules of a list are covered.
+//! Laws on numbers that bound terms, where only the rules of a list are covered.
 
 ghost use Rattle.std.specs.Prelude.{ℕ, List};
 ghost use Rattle.wh_terms.specs.Tree.{Tm};

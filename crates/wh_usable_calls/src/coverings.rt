@@ -1,4 +1,4 @@
-//! Sets of pairs whose sides are covered, where only some rules are.
+//! The law on sets of pairs that are covered with the rules of a closed list.
 
 ghost use Rattle.std.specs.Prelude.{ℕ, List};
 ghost use Rattle.wh_terms.specs.Rules.{AreWellMade};

@@ -1,4 +1,4 @@
--- First-order trees.
+-- First-order trees: symbols with arguments of sorts, and meta-variables without arguments.
 use Rattle.std.specs.Prelude.{ℕ, ◌≡◌, List, [], ◌∷◌, Some, slice_get}
 use Rattle.wh_types.specs.Ty.{Ty, sort, ◌⇒◌, arguments}
 use Rattle.wh_terms.specs.Tree.{Tm, fun, meta, app, none}
@@ -28,7 +28,7 @@ abbrev mutual
   IsFlatTree S M (app t u) = IsFlatTree S M t × IsFlatTree S M u
   IsFlatTree S M _ = ⊥
 
--- so are all trees of a list
+-- each tree of the list is flat
 abbrev pub AreFlatTrees : Symbols → List Declared → List Tm → Type 0
 AreFlatTrees S M [] = Unit {0}
 AreFlatTrees S M (t ∷ ts) = IsFlatTree S M t × AreFlatTrees S M ts

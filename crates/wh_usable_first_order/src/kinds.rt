@@ -1,4 +1,4 @@
-//! What types tell of symbols, of meta-variables and of trees of these.
+//! What types tell of symbols, of meta-variables and of trees: whether they are first-order, or of a sort.
 
 ghost use Rattle.std.specs.Prelude.{◌≡◌, ◌↔◌, ℕ, [], IsTrue, MatchOption, take};
 ghost use Rattle.wh_types.specs.Erase.{ty};
@@ -78,7 +78,7 @@ fn kind_of<'a>(
     }
 }
 
-// What is left of the type behind its first argument.
+// The type behind the first argument of this type; `None` where the type is a sort.
 fn behind_one(kind: &SimpleType) -> Option<&SimpleType>
     ensures { (a b : Ty) → ty kind.now ≡ a ⇒ b → MatchOption result ⊥ (λ rest. ty rest.now ≡ b) }
 {
@@ -88,7 +88,7 @@ fn behind_one(kind: &SimpleType) -> Option<&SimpleType>
     }
 }
 
-/// Whether the first arguments of the symbol, so many of them, are of a sort.
+/// Whether the first `count` arguments of the symbol are of a sort.
 pub fn takes_sorts_first(signature: &Signature, symbol: u32, count: u32) -> bool
     ensures { IsTrue result ↔ AreSorts (take count (arguments (type_at (symbols signature.now).funs symbol))) }
 {
@@ -98,7 +98,7 @@ pub fn takes_sorts_first(signature: &Signature, symbol: u32, count: u32) -> bool
     }
 }
 
-// Whether the first arguments of the type, so many of them, are sorts.
+// Whether the first `count` arguments of the type are sorts.
 fn first_are_sorts(kind: &SimpleType, count: u32) -> bool
     ensures { IsTrue result ↔ AreSorts (take count (arguments (ty kind.now))) }
 {

@@ -29,7 +29,7 @@ abbrev pub AreTakenBefore : List RewriteRule → List Bool → List Bool → ℕ
 AreTakenBefore rules called taken i =
     (n : ℕ) (r : RewriteRule) (f : ℕ) → n < i → slice_get rules n ≡ Some r → head r.left ≡ fun f → Says called f → Says taken n
 
--- so are all rules
+-- all rules of symbols that are called are taken
 pub record AreTaken (rules : List RewriteRule) (called taken now_called now_taken : List Bool) : Type 0 where
   pub takes : Takes rules called taken now_called now_taken
   pub all : AreTakenBefore rules now_called now_taken (length rules)

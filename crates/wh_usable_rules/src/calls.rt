@@ -1,4 +1,4 @@
-//! The symbols that terms call, in a table.
+//! The symbols that terms call, entered into a table that has a place for each symbol.
 
 ghost use Rattle.std.specs.Prelude.{◌≡◌, ◌↔◌, ℕ, IsTrue};
 ghost use Rattle.wh_terms.specs.Erase.{tm, tms};
@@ -55,7 +55,7 @@ pub fn calls_head(called: &[bool], term: &Term) -> bool
     }
 }
 
-/// What the table says of the place: no where it does not have it.
+/// Whether the table says yes of the place; it says no of a place that it does not have.
 pub fn says(table: &[bool], place: usize) -> bool
     ensures { IsTrue result ↔ Says table.now place }
 {

@@ -1,4 +1,4 @@
-//! The least closed list of rules.
+//! The usable rules of a set of pairs: the least closed list of rules. `usable_rules` is the main function.
 
 ghost use Rattle.std.specs.Prelude.{◌<◌, All, IfOk, length};
 ghost use Rattle.wh_system.specs.SystemView.{system_data};

@@ -1,4 +1,4 @@
-//! Inputs, what is required, and the formula.
+//! Building a circuit: inputs, wires that are required to be true, and the formula that a solver takes.
 
 ghost use Rattle.std.specs.Prelude.{◌≡◌, ◌↔◌, ℕ, ◌+◌, ◌<◌, ◌^◌, ◌++◌, [], ◌∷◌, Bool, true, false, IfOk, OnErr, OnOk, get_or, length, not};
 ghost use Rattle.wh_circuit.specs.Gates.{Agrees, IsWire, Ordered};

@@ -1,4 +1,4 @@
-//! Numbers, whose bits are wires, the lowest first.
+//! Comparing numbers whose bits are wires, the lowest first.
 
 ghost use Rattle.std.specs.Prelude.{◌≡◌, ℕ, ◌+◌, ◌*◌, ◌<◌, ◌^◌, ◌&&◌, ◌||◌, Bool, IfOk, OnErr, OnOk, length, nat_lt, not};
 ghost use Rattle.wh_circuit.specs.Gates.{AreWires, IsWire, Means};
@@ -32,7 +32,7 @@ impl Circuit {
         }
     }
 
-    /// The same, but for what is left without memory.
+    /// Compares two numbers as `at_least` does. Where memory is wanting, gates may be left that `at_least` takes back.
     fn compared(&mut self, a: &[Wire], b: &[Wire]) -> Result<Wire, AllocError>
         requires room { length (gates_of self.old) + (4 * length a.now + 1) < 2 ^ 31 }
         requires width { length a.now ≡ length b.now }

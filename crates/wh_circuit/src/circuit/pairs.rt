@@ -1,4 +1,4 @@
-//! Gates of two wires. They add at most so many variables, also where memory is wanting.
+//! Gates of two wires. Each says how many variables it adds at most; where memory is wanting it adds no more.
 
 ghost use Rattle.std.specs.Prelude.{◌≡◌, ℕ, ◌+◌, ◌<◌, ◌^◌, ◌&&◌, ◌||◌, IfOk, length};
 ghost use Rattle.wh_circuit.specs.Gates.{IsWire, Means};

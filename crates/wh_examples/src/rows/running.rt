@@ -8,7 +8,7 @@ use wh_types::Bytes;
 /// What a run is given beside its certificate.
 #[derive(Drop)]
 pub struct Given {
-    /// Its words.
+    /// The words of the run.
     pub words: Vec<String>,
     /// The bytes of the file `system`.
     pub system: Bytes,

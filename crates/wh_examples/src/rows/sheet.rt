@@ -1,4 +1,4 @@
-//! The lines of a sheet.
+//! The lines of a sheet of rows, obeyed one by one.
 
 use crate::rows::running::{Faults, Given, SOUND, ended, words_of};
 use crate::rows::spelling::{Named, name_text, number_of, spelled, spelled_each};
@@ -188,7 +188,7 @@ fn judge(
     Ok(Some(is_as_told))
 }
 
-// `finds TEXT`.
+// Whether the last run ended as a line `finds TEXT` says.
 fn finds_front(alloc: Global, sheet: &Sheet, rest: &str) -> Result<bool, AllocError> {
     let front = spelled(alloc, sheet.texts.as_slice(), rest)?;
     let told = sheet.told.as_slice();
@@ -198,7 +198,7 @@ fn finds_front(alloc: Global, sheet: &Sheet, rest: &str) -> Result<bool, AllocEr
     is_accepted(alloc, sheet.given.system.as_slice(), told)
 }
 
-// `writes STATUS TEXT` and the like.
+// Whether the last run ended as a line like `writes STATUS TEXT` says.
 fn ends_as(alloc: Global, sheet: &Sheet, verb: Verb, rest: &str) -> Result<bool, AllocError> {
     let (status, raw) = rest.split_once(' ').unwrap_or((rest, ""));
     let text = spelled(alloc, sheet.texts.as_slice(), raw)?;
@@ -235,7 +235,7 @@ fn sweep(
     }))
 }
 
-// `fronts PIECE TEXT`.
+// Whether runs whose writes fail end as a line `fronts PIECE TEXT` says.
 fn fronts(alloc: Global, sheet: &Sheet, rest: &str) -> Result<bool, AllocError> {
     let (piece, raw) = rest.split_once(' ').unwrap_or((rest, ""));
     let text = spelled(alloc, sheet.texts.as_slice(), raw)?;

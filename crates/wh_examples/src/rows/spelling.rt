@@ -1,4 +1,4 @@
-//! Texts as a sheet spells them.
+//! Texts as a sheet spells them, with names for those that come again.
 
 use std::alloc::{AllocError, Global};
 use wh_types::Bytes;
@@ -29,7 +29,7 @@ pub fn spelled(alloc: Global, texts: &[Named], raw: &str) -> Result<Bytes, Alloc
     Ok(text)
 }
 
-/// The text is joined so many times by what is spelled, in which `<#>` is how many times it was joined before.
+/// The text is joined `times` times by what is spelled, in which `<#>` is how many times it was joined before.
 pub fn spelled_each(
     alloc: Global,
     texts: &[Named],
@@ -97,7 +97,7 @@ pub fn number_of(word: &str) -> u32 {
     word.parse().unwrap_or(0)
 }
 
-// The text that got the name last, so many times.
+// The text that got the name last, `times` times.
 fn add_named(texts: &[Named], name: &str, times: u32, text: &mut Bytes) -> Result<(), AllocError> {
     let mut found = b"".as_slice();
     for named in texts {

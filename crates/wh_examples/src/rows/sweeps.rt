@@ -4,7 +4,7 @@ use crate::rows::running::{Faults, Given, SOUND, ended, words_of, writes};
 use std::alloc::{AllocError, Global};
 use wh_types::Bytes;
 
-/// Whether each proper front part of the certificate is rejected at its end.
+/// Whether each proper beginning of the certificate is rejected at its end.
 pub fn rejects_cuts(alloc: Global, given: &Given, certificate: &[u8]) -> Result<bool, AllocError> {
     for length in 0..certificate.len() {
         let line = format!(in alloc; "REJECTED syntax {length}\n")?;
@@ -78,8 +78,8 @@ fn is_answer(status: u8, text: &[u8]) -> bool {
     }
 }
 
-/// Whether the fault of each write leaves the bytes of the writes before it, where a write takes so many bytes and the
-/// text is written.
+/// Whether the fault of each write leaves the bytes of the writes before it, where a write takes at most `piece` bytes
+/// and `text` is written.
 pub fn leaves_fronts(
     alloc: Global,
     given: &Given,

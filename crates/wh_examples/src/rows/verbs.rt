@@ -7,7 +7,7 @@ pub enum Verb {
     Remark,
     /// A text gets a name.
     Let,
-    /// A text so many times gets a name.
+    /// A text that repeats another one gets a name.
     Each,
     /// The words of the runs that follow.
     Words,

@@ -1,4 +1,4 @@
-//! Trees that join a table, part by part.
+//! Trees that join a table: `add` puts in what is new of a tree, and answers with the tree's number.
 
 ghost use Rattle.std.specs.Prelude.{◌≡◌, ◌↔◌, ◌⊎◌, Contains, IfOk, OnOk, Some, length, slice_get};
 ghost use Rattle.wh_terms.specs.Erase.{tm, tms};
@@ -41,7 +41,7 @@ impl Table {
         Ok(number)
     }
 
-    // The same, part by part.
+    // The number of the tree, after its parts have joined one by one.
     #[cycle(insert)]
     fn insert(&mut self, term: &Term) -> Result<u32, AllocError>
         ensures number { IfOk result (λ n. slice_get (trees self.new) n ≡ Some (tm term.now)) }

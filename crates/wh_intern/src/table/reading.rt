@@ -1,4 +1,4 @@
-//! What a table holds.
+//! Reading a table: its nodes by number, and its law that each tree has one number.
 
 ghost use Rattle.std.specs.Prelude.{◌≡◌, ◌<◌, ◌≤◌, ◌^◌, [], ℕ, IfOk, length};
 ghost use Rattle.wh_terms.specs.Tree.{Tm};

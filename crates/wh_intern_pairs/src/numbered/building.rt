@@ -1,4 +1,4 @@
-//! The sides of pairs join an empty table.
+//! The sides of all pairs of a system join an empty table, once for all that compare sides by number.
 
 ghost use Rattle.std.specs.Prelude.{IfOk, IsSomeAnd, OnOk};
 ghost use Rattle.wh_pairs.specs.SystemPairs.{HasPairs};
@@ -23,8 +23,8 @@ impl Numbered {
         Ok(Numbered { table, sides })
     }
 
-    /// Makes it of the pairs of a system where it is not made yet, so that who asks for no sides by number pays for
-    /// none.
+    /// Makes the numbered sides of the pairs of a system where they are not made yet. So a search that asks for no
+    /// sides by number does not pay for them.
     pub fn once(
         alloc: Global,
         pairs: &PairList,

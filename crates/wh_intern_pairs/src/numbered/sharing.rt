@@ -1,4 +1,4 @@
-//! Where the numbers of sides pay.
+//! When numbered sides pay: where two pairs of a rule share its left side.
 
 ghost use Rattle.std.specs.Prelude.{◌↔◌, ◌⊎◌, ◌<◌, All, IsSome, IsTrue, OnOk, length, map};
 ghost use Rattle.wh_system.specs.Systems.{SystemData};

@@ -1,4 +1,4 @@
-//! What is learnt from a conflict.
+//! Learning from a conflict: the clause of the negated decisions that it needs joins the formula.
 
 ghost use Rattle.std.specs.Prelude.{◌≡◌, ◌+◌, ◌<◌, ◌++◌, [], ◌∷◌, IfOk, OnOk, length, map};
 ghost use Rattle.wh_sat.specs.Learning.{Refutes};

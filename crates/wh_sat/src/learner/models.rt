@@ -1,4 +1,4 @@
-//! Truth values for all variables.
+//! Truth values for all variables: the next decision, and the model at the end.
 
 ghost use Rattle.std.specs.Prelude.{◌≡◌, ◌<◌, IfOk, MatchOption, None, ℕ, false, get_or, length, unwrap_or};
 ghost use Rattle.wh_sat.specs.State.{variables_of};

@@ -1,4 +1,4 @@
-//! The search: propagation, decisions, and a clause from each conflict.
+//! The search of the learner: propagation, decisions, and a clause from each conflict. `next` is the main function.
 
 ghost use Rattle.std.specs.Bool.{OnTrue};
 ghost use Rattle.std.specs.Prelude.{◌≡◌, ◌+◌, ◌<◌, ◌++◌, [], ◌∷◌, IfOk, OnOk, false, length, replicate};

@@ -1,4 +1,4 @@
-//! A trail over a formula, and the clauses that join it.
+//! Making a trail over a formula, and adding clauses to it.
 
 ghost use Rattle.std.specs.Prelude.{◌≡◌, ◌<◌, ◌*◌, ◌++◌, [], ◌∷◌, IfOk, OnErr, OnOk, false, length, true, vec_capacity, vec_len, ℕ};
 ghost use Rattle.wh_sat_trail.specs.Assignment.{AllBelow};

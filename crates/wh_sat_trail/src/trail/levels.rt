@@ -1,4 +1,4 @@
-//! Levels: decisions, and the way back.
+//! Decision levels of a trail: `decide` opens one, and `undo` goes back.
 
 ghost use Rattle.std.specs.Prelude.{◌≡◌, ◌+◌, ◌<◌, ◌≤◌, ◌++◌, [], ◌∷◌, OnErr, OnOk, get_or, length, take, ℕ};
 ghost use Rattle.wh_sat_trail.specs.Assignment.{Open, value_in};

@@ -1,4 +1,5 @@
-//! The walk through the clauses that watch a literal which has become false.
+//! Visiting the clauses that watch a literal which has become false: each finds another watch, forces a literal or is
+//! false.
 
 ghost use Rattle.std.specs.Bool.{OnTrue};
 ghost use Rattle.std.specs.List.{swap_remove};
@@ -30,7 +31,7 @@ impl Trail {
         self.assignment.assign(literal, Some(reason));
     }
 
-    /// The other watch of a clause that watches a literal.
+    /// The second watch of a clause, where `falsified` is one of its two watches.
     fn other_watch(&self, number: usize, falsified: Literal) -> Option<Literal>
         ensures { MatchOption result (number < vec_len self.now.pairs → (get_or self.now.pairs.items number no_pair).watched ≡ true
             → ((get_or self.now.pairs.items number no_pair).first ≢ falsified)

@@ -1,4 +1,4 @@
--- Both have the same coefficients.
+-- The two sums have the same coefficients.
 use Rattle.wh_poly.proofs.CoefficientLaws.{sum_associates}
 use Rattle.wh_poly.proofs.laws.sums_associate.Goals as goal
 

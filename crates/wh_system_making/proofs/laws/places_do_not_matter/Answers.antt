@@ -1,4 +1,4 @@
--- Both are what the parts without places are.
+-- Parts pass the tests and say a system as the parts without offsets do.
 use Rattle.wh_system_making.proofs.UnplacedParts.{places_pass, places_say}
 use Rattle.wh_system_making.proofs.laws.places_do_not_matter.Goals as goal
 
