@@ -6,4 +6,4 @@ mod program;
 mod telling;
 mod words;
 
-pub use program::run;
+pub use program::{report_no_memory, run};

@@ -15,8 +15,7 @@ use Rattle.wh_poly_blocking.specs.Answers.{IsAnswer}
 use Rattle.wh_poly_flat.specs.Flat.{IsFlat}
 use Rattle.wh_find_flat.specs.Answers.{IsFlatAnswer}
 use Rattle.wh_interpreting.specs.Interpreted.{HasNone, Interprets, IsInterpreted}
-use Rattle.wh_interpreting.specs.Lists.{IsAsked, ListsEnd}
-use Rattle.wh_interpreting.specs.Lists.ListsEnd.{given_up, none}
+use Rattle.wh_interpreting.specs.Lists.{IsAsked, ListsEnd, given_up, none}
 
 -- a node without a list
 pub without_list : (d : SystemData) (ps : List PairData) (set : List ℕ) (node : Node) → IsInterpretation d ps set (said_node node)
