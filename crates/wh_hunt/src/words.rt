@@ -1,6 +1,6 @@
 //! The words of the command line: a file, and how much work a hunt may do. `read_hunt` is the main function.
 
-ghost use Rattle.std.specs.Prelude.{ℕ, ◌≡◌, ◌↔◌, List, ⊥, IsTrue, MatchOption, map, string_bytes};
+ghost use Rattle.std.specs.Prelude.{ℕ, ◌≡◌, ◌↔◌, List, IsTrue, MatchOption, map, string_bytes};
 ghost use Rattle.wh_hunt.specs.Words.{AsksHunt, AsksWithWork, SetsWork, usual_work};
 ghost use Rattle.wh_top_words.specs.Words.{IsPlain};
 

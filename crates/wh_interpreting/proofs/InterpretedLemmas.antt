@@ -1,21 +1,21 @@
 -- What the searches by a climb, by a formula and by guesses find, as one answer.
-use Rattle.std.proofs.Common.{◌≡◌, ◌↔◌, ◌+◌, ◌*◌, ◌<◌, ◌≤◌, ℕ, Bool, IsTrue, List, Option, Some, None, Result, Ok, Err, IfOk, subst}
+use Rattle.std.proofs.Common.{◌≡◌, ◌↔◌, ◌+◌, ◌*◌, ◌<◌, ◌≤◌, ℕ, Bool, true, false, IsTrue, sym, ◌∙◌, List, length, Option, Some, None, Result, Ok, Err, IfOk, subst}
 use Rattle.wh_system.specs.Systems.{SystemData}
 use Rattle.wh_pairs.specs.PairData.{PairData}
 use Rattle.wh_cert.specs.Said.{said_node}
 use Rattle.wh_cert.specs.declared.certificate.Node.{Node}
 use Rattle.wh_sat.specs.declared.solving.Search.{Search}
 use Rattle.wh_sat.specs.declared.solving.Search.TheVariants as search
-use Rattle.wh_reduction_pairs.specs.TaskData.{TaskData}
+use Rattle.wh_reduction_pairs.specs.TaskData.{TaskData, whole_task}
+use Rattle.wh_usable_rules.specs.Least.{IsLeastClosed}
 use Rattle.wh_proof.specs.Looked.{poly_task}
-use Rattle.wh_poly_guesses.specs.Conditions.{HasNoInterpretation}
-use Rattle.wh_poly_guesses.specs.Found.{task_of, IsInterpretation}
+use Rattle.wh_poly_guesses.specs.Found.{IsInterpretation}
 use Rattle.wh_sat_trail.specs.declared.literal.Literal.{Literal}
 use Rattle.wh_poly_blocking.specs.Answers.{IsAnswer}
 use Rattle.wh_poly_flat.specs.Flat.{IsFlat}
 use Rattle.wh_find_flat.specs.Answers.{IsFlatAnswer}
 use Rattle.wh_interpreting.specs.Interpreted.{HasNone, Interprets, IsInterpreted}
-use Rattle.wh_interpreting.specs.Lists.{IsAsked, ListsEnd, given_up, none}
+use Rattle.wh_interpreting.specs.Lists.{IsAsked, IsListFor, ListsEnd, given_up, most_covered, none, not_asked, not_flat, too_long}
 
 -- a node without a list
 pub without_list : (d : SystemData) (ps : List PairData) (set : List ℕ) (node : Node) → IsInterpretation d ps set (said_node node)
@@ -62,6 +62,23 @@ pub none_by_formula : (d : SystemData) (ps : List PairData) (set : List ℕ) (bu
     → IsFlatAnswer d ps set None budget found → found ≡ search.Nothing → HasNone d ps set budget
 none_by_formula d ps set budget found lists answer is =
     record { over_all = subst (IsFlatAnswer d ps set None budget) is answer; lists = lists }
+
+-- why no formula over a list is made
+
+false_not_true : false ≡ true → ⊥
+false_not_true e = cc
+
+pub too_long_list : (d : SystemData) (ps : List PairData) (set listed : List ℕ) → IsLeastClosed (whole_task d.symbols d.rules ps set) listed
+    → most_covered < length listed + length set → IsListFor d ps set None
+too_long_list d ps set listed least long = too_long listed least long
+
+pub not_flat_list : (d : SystemData) (ps : List PairData) (set listed : List ℕ) (flat : Bool) → IsLeastClosed (whole_task d.symbols d.rules ps set) listed
+    → (IsTrue flat ↔ IsFlat (poly_task d ps set (Some listed))) → flat ≡ false → IsListFor d ps set None
+not_flat_list d ps set listed flat least is false_is = not_flat listed least (λ f. false_not_true (sym false_is ∙ is.1 f))
+
+pub none_asked : (d : SystemData) (ps : List PairData) (set : List ℕ) (budget : ℕ) (usable : Option (List ℕ)) → IsListFor d ps set usable
+    → usable ≡ None → ListsEnd d ps set budget
+none_asked d ps set budget usable is none_is = not_asked (subst (IsListFor d ps set) none_is is)
 
 -- whether a set is flat, one way
 

@@ -1,7 +1,7 @@
 //! The search for interpretations that let a pair of a set go, by all its means in turn: `interpretation_of` climbs,
 //! asks formulas for flat sets where the climb finds none, and then starts the wider search.
 
-ghost use Rattle.std.specs.Prelude.{◌+◌, ◌*◌, ◌<◌, ◌≤◌, ◌↔◌, All, IfOk, IfSome, IsTrue, MatchOption, None, length};
+ghost use Rattle.std.specs.Prelude.{◌≡◌, false, ◌+◌, ◌*◌, ◌<◌, ◌≤◌, ◌↔◌, All, IfOk, IfSome, IsTrue, MatchOption, None, length};
 ghost use Rattle.wh_types.specs.Limits.{most_pairs};
 ghost use Rattle.wh_pairs.specs.SystemPairs.{HasPairs};
 ghost use Rattle.wh_pairs.specs.Views.{pairs_data};
@@ -130,7 +130,7 @@ fn flat_with(
 
 // Whether few rules and pairs are to be covered.
 fn is_short(listed: &[u32], set: &[u32]) -> bool
-    ensures { IsTrue result ↔ (length listed.now + length set.now ≤ most_covered) }
+    ensures { result ≡ false → most_covered < length listed.now + length set.now }
 {
     listed.len() <= MOST_COVERED && set.len() <= MOST_COVERED - listed.len()
 }
@@ -195,7 +195,8 @@ fn by_list(
     let most = most_learnt(budget);
     match find_by_circuit(alloc, system, pairs, set, Some(listed), most)? {
         Search::Found(node) => Ok(Some(node)),
-        Search::Nothing | Search::Spent(_) => Ok(None),
+        Search::Nothing => Ok(None),
+        Search::Spent(_learnt) => Ok(None),
     }
 }
 
