@@ -2,12 +2,13 @@
 #![tactic(auto)]
 
 mod cert_reader;
+mod gathered;
 mod items_out;
 mod laws;
-mod read;
+mod reading;
 
 pub use cert_reader::{CertReader, Portion};
 pub use laws::{
     no_proper_prefix, one_certificate, one_place, one_text, polynomials_short, text_or_fault,
 };
-pub use read::read_certificate;
+pub use reading::{Reading, read_certificate};

@@ -1,0 +1,21 @@
+use Rattle.std.proofs.Common.{◌≡◌, ◌≤◌, ◌-◌, ℕ, List, None, vec_len}
+use Rattle.wh_types.specs.Limits.{certificate_limit}
+use Rattle.wh_cert_text.specs.Gathering.{HasRead}
+use Rattle.wh_top_judging.proofs.Streaming.{ReadSoFar}
+use Rattle.wh_top_judging.proofs.streamed.certificate_in.Given as goal
+
+abbrev pub invariant-loop-count : goal.invariant-loop-count
+invariant-loop-count g l =
+    let s = g.S.Shelf in
+    record {
+      so_far : (bytes : List ℕ) × ReadSoFar (HasRead l.reading) l.pieces.given (s.held l.initial.shelf l.cert) bytes;
+      limit : l.pieces.limit ≡ certificate_limit;
+      short : l.pieces.given ≤ certificate_limit;
+      running : l.pieces.ended ≡ None;
+      kept : (other : List ℕ) → s.held l.shelf other ≡ s.held l.initial.shelf other;
+      same : s.faults l.shelf l.cert ≡ s.faults l.initial.shelf l.cert;
+      piece : vec_len l.buffer ≡ 4096;
+    }
+
+abbrev pub decreases-loop-count : goal.decreases-loop-count
+decreases-loop-count g l = certificate_limit - l.pieces.given
