@@ -16,5 +16,4 @@ pub mod ItemsHanded
 pub mod ItemsWhole
 pub mod CertReaderCode
 pub mod PortionCode
-pub mod Gathering
 pub mod ReadingCode

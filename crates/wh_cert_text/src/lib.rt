@@ -1,8 +1,8 @@
-//! Reading certificates from their bytes: whole by `read_certificate`, or item by item by `CertReader`.
+//! Reading certificates from their bytes: whole by `read_certificate`, in pieces by `Reading`, or item by item by
+//! `CertReader`.
 #![tactic(auto)]
 
 mod cert_reader;
-mod gathered;
 mod items_out;
 mod laws;
 mod reading;

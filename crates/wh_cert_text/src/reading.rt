@@ -1,34 +1,39 @@
 //! Certificates, read from their bytes.
 
-ghost use Rattle.std.specs.Prelude.{◌≡◌, ◌++◌, ◌+◌, ◌<◌, ◌≤◌, ◌^◌, [], ℕ, List, IfErr, IfOk, OnOk, length, take};
+ghost use Rattle.std.specs.Prelude.{◌≡◌, ◌++◌, ◌+◌, ◌<◌, ◌≤◌, ◌^◌, [], ℕ, List, IfOk, OnOk, length, take};
 ghost use Rattle.wh_types.specs.Outcome.{IfBecause};
+ghost use Rattle.wh_text.specs.Erase.{rtm};
 ghost use Rattle.wh_cert.specs.CertText.{CertText, FaultAt};
-ghost use Rattle.wh_cert.specs.Said.{said};
-ghost use Rattle.wh_cert_text.specs.Gathering.{HasRead};
+ghost use Rattle.wh_cert.specs.Items.{at as at_item, node as node_item, put as put_item, step as step_item};
+ghost use Rattle.wh_cert.specs.Said.{said, said_item, said_node, said_put};
+ghost use Rattle.wh_cert.specs.Written.{no as no_cert, yes as yes_cert};
+ghost use Rattle.wh_cert_text.specs.Gathering.{HasRead, ReadsAs, with_item};
 
 use crate::cert_reader::{CertReader, Portion};
-use crate::gathered::Gathered;
 use std::alloc::{AllocError, Global};
-use wh_cert::{CertSyntax, Certificate};
-use wh_types::Or;
+use wh_cert::{
+    CertSyntax, Certificate, Item, NoCertificate, Node, Nodes, Put, Puts, Steps, YesCertificate,
+};
+use wh_terms::{Path, Step};
+use wh_text::RawTerm;
+use wh_types::{Numbers, Or};
 
-/// A certificate that is read as its bytes come. What its lines say is kept; of its bytes those of the present lines
-/// are kept alone.
+/// A certificate that is read while its bytes come. Its items are kept, and of its bytes those of the present lines.
 #[derive(Drop)]
 pub struct Reading {
     reader: CertReader,
-    gathered: Gathered,
+    certificate: Certificate,
     alloc: Global,
 }
 
 impl Reading {
-    /// Before the first byte.
+    /// The reading before the first byte.
     pub fn new(alloc: Global) -> Reading
         ensures { HasRead result [] }
     {
         Reading {
             reader: CertReader::new(alloc),
-            gathered: Gathered::Nothing,
+            certificate: yes_head(alloc, 0, Numbers::new(alloc), 0),
             alloc,
         }
     }
@@ -46,7 +51,7 @@ impl Reading {
         Ok(())
     }
 
-    /// Takes bytes up to the last one of an item, or all of them, and tells how many.
+    /// Takes bytes up to the last one of an item, or all of them; the answer is how many were taken.
     fn take(&mut self, bytes: &[u8]) -> Result<usize, AllocError>
         requires few { (before : List ℕ) × HasRead self.old before × (length before + length bytes.now < 2 ^ 32) }
         requires some { 0 < length bytes.now }
@@ -63,32 +68,120 @@ impl Reading {
         match item {
             None => Ok(taken),
             Some(item) => {
-                self.gathered.add(self.alloc, item)?;
+                add(&mut self.certificate, self.alloc, item)?;
                 Ok(taken)
             }
         }
     }
 
-    /// Gives the certificate of which the bytes that came are the text.
+    /// Gives the certificate whose text the bytes are that came.
     ///
     /// # Errors
-    /// They are the text of none, with the number of bytes that begin the text of one.
+    /// The bytes are no certificate's text; the fault has the number of bytes that begin such a text.
     pub fn finish(self) -> Result<Certificate, CertSyntax>
-        requires { (bytes : List ℕ) × HasRead self bytes × (length bytes < 2 ^ 32) }
-        ensures read { IfOk result (λ certificate. (bytes : List ℕ) → HasRead self bytes → length bytes < 2 ^ 32
-            → CertText bytes (said certificate)) }
-        ensures fault { IfErr result (λ fault. (bytes : List ℕ) → HasRead self bytes → length bytes < 2 ^ 32
-            → FaultAt bytes fault.at) }
+        ensures { (bytes : List ℕ) → HasRead self bytes → length bytes < 2 ^ 32 → ReadsAs bytes result }
     {
         match self.reader.finish() {
-            Ok(()) => Ok(self.gathered.whole()),
+            Ok(()) => Ok(self.certificate),
             Err(fault) => Err(fault),
         }
     }
 }
 
-/// The certificate of which these bytes are the text. A fault is that they are the text of none, with the number of
-/// bytes that begin the text of one.
+/// Adds an item to a certificate.
+fn add(certificate: &mut Certificate, alloc: Global, item: Item) -> Result<(), AllocError>
+    ensures { OnOk result (said certificate.new ≡ with_item (said certificate.old) (said_item item)) }
+{
+    match item {
+        Item::YesHead {
+            version,
+            ranks,
+            pairs,
+        } => {
+            *certificate = yes_head(alloc, version, ranks, pairs);
+            Ok(())
+        }
+        Item::NoHead { term } => {
+            *certificate = no_head(alloc, Box::into_inner(term));
+            Ok(())
+        }
+        Item::Node(node) => add_node(certificate, Box::into_inner(node)),
+        Item::Step(step) => add_step(certificate, step),
+        Item::At(at) => {
+            set_place(certificate, at);
+            Ok(())
+        }
+        Item::Put(put) => add_put(certificate, Box::into_inner(put)),
+        Item::End => Ok(()),
+    }
+}
+
+/// A YES certificate before its nodes.
+fn yes_head(alloc: Global, version: u32, ranks: Numbers, pairs: u32) -> Certificate
+    ensures { said result ≡ yes_cert version ranks pairs [] }
+{
+    Certificate::Yes(YesCertificate {
+        version,
+        ranks,
+        pairs,
+        nodes: Nodes::new(alloc),
+    })
+}
+
+/// A NO certificate before its steps.
+fn no_head(alloc: Global, term: RawTerm) -> Certificate
+    ensures { said result ≡ no_cert (rtm term) [] [] [] }
+{
+    Certificate::No(NoCertificate {
+        term,
+        steps: Steps::new(alloc),
+        at: Path::new(alloc),
+        puts: Puts::new(alloc),
+    })
+}
+
+/// Adds a node to a YES certificate.
+fn add_node(certificate: &mut Certificate, node: Node) -> Result<(), AllocError>
+    ensures { OnOk result (said certificate.new ≡ with_item (said certificate.old) (node_item (said_node node))) }
+{
+    match certificate {
+        Certificate::Yes(yes) => yes.nodes.push(node),
+        Certificate::No(_) => Ok(()),
+    }
+}
+
+/// Adds a step to a NO certificate.
+fn add_step(certificate: &mut Certificate, step: Step) -> Result<(), AllocError>
+    ensures { OnOk result (said certificate.new ≡ with_item (said certificate.old) (step_item step)) }
+{
+    match certificate {
+        Certificate::Yes(_) => Ok(()),
+        Certificate::No(no) => no.steps.push(step),
+    }
+}
+
+/// Sets the place of the instance in a NO certificate.
+fn set_place(certificate: &mut Certificate, at: Path)
+    ensures { said certificate.new ≡ with_item (said certificate.old) (at_item at) }
+{
+    match certificate {
+        Certificate::Yes(_) => {}
+        Certificate::No(no) => no.at = at,
+    }
+}
+
+/// Adds what is put for a variable to a NO certificate.
+fn add_put(certificate: &mut Certificate, put: Put) -> Result<(), AllocError>
+    ensures { OnOk result (said certificate.new ≡ with_item (said certificate.old) (put_item (said_put put))) }
+{
+    match certificate {
+        Certificate::Yes(_) => Ok(()),
+        Certificate::No(no) => no.puts.push(put),
+    }
+}
+
+/// The certificate whose text the bytes are. The fault of bytes that are no certificate's text has the number of bytes
+/// that begin such a text.
 pub fn read_certificate(alloc: Global, bytes: &[u8]) -> Result<Certificate, Or<CertSyntax>>
     requires { length bytes.now < 2 ^ 32 }
     ensures read { IfOk result (λ certificate. CertText bytes.now (said certificate)) }

@@ -16,19 +16,22 @@ use Rattle.wh_no.specs.Claim.{Claim}
 use Rattle.wh_no.specs.Valid.{IsValid}
 use Rattle.wh_proof.specs.Valid.{IsValidYes}
 use Rattle.wh_checker.specs.Accepted.{AreBounded}
+use Rattle.wh_checker.specs.declared.rejected.Rejected.{Rejected as Row}
+use Rattle.wh_checker.specs.declared.rejected.Rejected.TheVariants as row
 use Rattle.wh_answer.specs.declared.report.Report.{Report}
 use Rattle.wh_answer.specs.declared.report.Report.TheVariants as answer
 use Rattle.wh_answer.specs.declared.report.NamedRejection.TheVariants.{Syntax}
 use Rattle.wh_explain_verdict.specs.declared.verdict.Verdict.{Verdict}
 use Rattle.wh_explain_verdict.specs.declared.verdict.Verdict.TheVariants.{Proof, Loop, Rejected, Overflow, TooLarge, Open}
 use Rattle.wh_explain_verdict.specs.FirstWords.{first_words, verdict_of}
-use Rattle.wh_top_judging.specs.Outcomes.{BeginsWith, IsSystemIn, Shelves, StandsBySystem, Told, Weighed}
+use Rattle.wh_top_judging.specs.Outcomes.{BeginsWith, IsSystemIn, Judged, Shelves, StandsBySystem, Told, Weighed}
 use Rattle.wh_top_judging.specs.Unread.{CertificateFault}
 use Rattle.wh_types.specs.Outcome.{IfBecause, MatchOr}
 use Rattle.wh_types.specs.declared.want.Or.{Or}
 use Rattle.wh_types.specs.declared.want.Or.TheVariants.{NoMemory, Because}
+use Rattle.wh_top_naming.specs.Rows.{named_row}
 use Rattle.wh_explain.specs.Meaning.{Finds, IsUnweighed, Means, MeansLoop, MeansProof, SaysOf, SaysOfBytes, SomeIsUnbounded}
-use Rattle.wh_top_judging.proofs.Streaming.{text_judged}
+use Rattle.wh_top_judging.proofs.Streaming.{never_syntax}
 
 -- what a verdict means of a system
 abbrev pub MeantBy : SystemData → Verdict → Type 0
@@ -58,11 +61,18 @@ weighed_means d ps (no raw steps at puts) answer.No proofs loops made has (is, v
     (valid.0.term, loops d.symbols d.rules valid.0 made.rules valid.2)
 weighed_means d ps c o proofs loops made has w = tt
 
+-- no condition is named like a text that is none
+-- what the check answers on the certificate of a text is what it answers on the text
+pub text_judged : (d : SystemData) (ps : List PairData) (bytes : List ℕ) (c : Cert) (o : Report) → CertText bytes c → Weighed d ps c o
+    → Judged d ps bytes o
+text_judged d ps bytes c (answer.Rejected (Syntax at)) text (r, first, e) = absurd (never_syntax d r at e)
+text_judged d ps bytes c o text w = (c, text, w)
+
 -- so what is said of the one is said of the other
-pub text_said : {E : Type 0} (d : SystemData) (ps : List PairData) (c : Cert) (r : Result (List ℕ) E) → IfOk r (SaysOf d ps c)
-    → IfOk r (λ text. (bytes : List ℕ) → CertText bytes c → SaysOfBytes d ps bytes text)
-text_said d ps c (Ok text) (o, w, says) = λ bytes of. (o, text_judged d ps bytes c o of w, says)
-text_said d ps c (Err e) said = tt
+pub text_said : {E : Type 0} (d : SystemData) (ps : List PairData) (bytes : List ℕ) (c : Cert) (r : Result (List ℕ) E) → CertText bytes c
+    → IfOk r (SaysOf d ps c) → IfOk r (SaysOfBytes d ps bytes)
+text_said d ps bytes c (Ok text) of (o, w, says) = (o, text_judged d ps bytes c o of w, says)
+text_said d ps bytes c (Err e) of said = tt
 
 not_byte : (n a : ℕ) (xs rest : List ℕ) → (a ≡ n → ⊥) → a ∷ xs ≡ n ∷ rest → ⊥
 not_byte n a xs rest differs e = differs cc
@@ -114,11 +124,10 @@ pub of_report : {E : Type 0} (o : Report) (v : Verdict) (r : Result (List ℕ) E
 of_report o v r is begins = subst (λ (w : Verdict). IfOk r (BeginsWith (first_words w))) is begins
 
 -- bytes that are no certificate
-pub fault_said : {E : Type 0} (d : SystemData) (ps : List PairData) (at : ℕ) (r : Result (List ℕ) E)
-    → IfOk r (BeginsWith (first_words (verdict_of (answer.Rejected (Syntax at)))))
-    → IfOk r (λ text. (bytes : List ℕ) → FaultAt bytes at → SaysOfBytes d ps bytes text)
-fault_said d ps at (Ok text) begins = λ bytes fault. (answer.Rejected (Syntax at), fault, begins)
-fault_said d ps at (Err e) begins = tt
+pub fault_said : {E : Type 0} (d : SystemData) (ps : List PairData) (bytes : List ℕ) (at : ℕ) (r : Result (List ℕ) E) → FaultAt bytes at
+    → IfOk r (BeginsWith (first_words (verdict_of (answer.Rejected (Syntax at))))) → IfOk r (SaysOfBytes d ps bytes)
+fault_said d ps bytes at (Ok text) fault begins = (answer.Rejected (Syntax at), fault, begins)
+fault_said d ps bytes at (Err e) fault begins = tt
 
 -- what is said of a certificate that was found
 pub found_said : {E : Type 0} (d : SystemData) (ps : List PairData) (c : Cert) (r : Result (List ℕ) E) → IsCert c

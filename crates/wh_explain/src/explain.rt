@@ -1,7 +1,8 @@
 //! Explanations of a system: with a certificate that is given or found, or of why none was found.
 
-ghost use Rattle.std.specs.Prelude.{◌≡◌, ◌++◌, ℕ, IfOk, List, codes};
+ghost use Rattle.std.specs.Prelude.{◌≡◌, ◌≤◌, ◌++◌, IfOk, codes, length};
 ghost use Rattle.std.specs.Option.{option_map};
+ghost use Rattle.wh_types.specs.Limits.{certificate_limit};
 ghost use Rattle.wh_types.specs.Outcome.{IfBecause, MatchOr};
 ghost use Rattle.wh_system.specs.SystemView.{system_data};
 ghost use Rattle.wh_pairs.specs.SystemPairs.{HasPairs};
@@ -10,13 +11,13 @@ ghost use Rattle.wh_cert.specs.Limits.{IsCert};
 ghost use Rattle.wh_cert.specs.Said.{said};
 ghost use Rattle.wh_explain_verdict.specs.FirstWords.{first_words};
 ghost use Rattle.wh_top_judging.specs.Outcomes.{BeginsWith, Stands, StandsBySystem, Told, ToldSystem, outside};
-ghost use Rattle.wh_top_judging.specs.Streamed.{ReadsAs};
 ghost use Rattle.wh_explain.specs.Meaning.{Explains, Finds, IsUnexplained, IsUnweighed, Means, MeansLoop, MeansProof, SaysOf, SaysOfBytes, SaysOfFiles};
 
 use crate::causes::put_cause;
 use std::alloc::{AllocError, Global};
 use wh_answer::{NamedRejection, Report, print_answer};
-use wh_cert::{CertSyntax, Certificate};
+use wh_cert::Certificate;
+use wh_cert_text::read_certificate;
 use wh_checker::valid_certificates_mean_bounded;
 use wh_explain_verdict::{Verdict, first_words, verdict_of};
 use wh_io::Shelf;
@@ -86,7 +87,7 @@ fn by_certificate<S: Shelf>(
 {
     let problem = problem_in(alloc, shelf, file)?;
     let certificate = certificate_in(alloc, shelf, cert)?;
-    Ok(explained(alloc, &problem, &certificate)?)
+    Ok(explained(alloc, &problem, certificate.as_slice())?)
 }
 
 // The explanation by a search.
@@ -140,21 +141,17 @@ fn searched(alloc: Global, problem: &Problem) -> Result<Bytes, AllocError>
     }
 }
 
-// The explanation by what the bytes of a certificate were read as.
-fn explained(
-    alloc: Global,
-    problem: &Problem,
-    outcome: &Result<Certificate, CertSyntax>,
-) -> Result<Bytes, AllocError>
+// The explanation of the text of a certificate.
+fn explained(alloc: Global, problem: &Problem, bytes: &[u8]) -> Result<Bytes, AllocError>
+    requires length { length bytes.now ≤ certificate_limit }
     requires pairs { HasPairs (system_data problem.now.system) (pairs_data problem.now.pairs) }
-    requires read { (bytes : List ℕ) × ReadsAs bytes outcome.now }
-    ensures says { IfOk result (λ text. (bytes : List ℕ) → ReadsAs bytes outcome.now
-        → SaysOfBytes (system_data problem.now.system) (pairs_data problem.now.pairs) bytes text) }
+    ensures says { IfOk result (SaysOfBytes (system_data problem.now.system) (pairs_data problem.now.pairs) bytes.now) }
     ensures means { IfOk result (Means (system_data problem.now.system)) }
 {
-    match outcome {
-        Ok(certificate) => weighed(alloc, problem, certificate),
-        Err(fault) => {
+    match read_certificate(alloc, bytes) {
+        Ok(certificate) => weighed(alloc, problem, &certificate),
+        Err(Or::NoMemory) => Err(AllocError),
+        Err(Or::Because(fault)) => {
             let report = Report::Rejected(NamedRejection::Syntax { at: fault.at });
             let mut text = opening(alloc)?;
             put_answer(alloc, &mut text, &report)?;

@@ -1,26 +1,22 @@
--- Judging a certificate byte by byte, and reading one.
-use Rattle.std.proofs.Common.{◌≡◌, ℕ, List, [], ◌∷◌, ◌++◌, length, take, Option, Some, None, Result, Ok, Err, IfErr, IfOk, OnOk, ◌^◌, ◌<◌, refl, sym, subst, ◌∙◌, arith, append_assoc}
+-- Judging a certificate byte by byte.
+use Rattle.std.proofs.Common.{◌≡◌, ℕ, List, [], ◌∷◌, ◌++◌, length, take, Option, Some, None, Result, Ok, Err, IfOk, OnOk, refl, sym, subst, ◌∙◌, arith, append_assoc}
 use Rattle.std.proofs.lemmas.List.{append-nil, take_all}
 use Rattle.std.specs.Option.{option_map, option_to_list}
 use Rattle.wh_system.specs.Systems.{SystemData}
 use Rattle.wh_pairs.specs.PairData.{PairData}
 use Rattle.wh_cert.specs.Written.{Cert, yes, no}
-use Rattle.wh_cert.specs.CertText.{Begins, CertText, FaultAt}
+use Rattle.wh_cert.specs.CertText.{Begins, CertText}
 use Rattle.wh_cert.specs.Items.{Item, items}
-use Rattle.wh_cert_text.specs.Gathering.{HasRead}
 use Rattle.wh_cert_text.specs.ItemsRead.{ItemsIn}
 use Rattle.wh_cert_text.specs.Feeding as reader
 use Rattle.wh_cert_text.specs.Portions.{Adds, HasFed}
 use Rattle.wh_cert_text.specs.declared.cert_reader.Portion.{Portion}
-use Rattle.wh_cert_text.proofs.ReadingCode.{begins_itself, begins_less}
 use Rattle.wh_types.specs.declared.want.Or.{Or}
 use Rattle.wh_types.specs.declared.want.Or.TheVariants.{NoMemory, Because}
 use Rattle.wh_cert.specs.declared.certificate.CertSyntax.{CertSyntax}
-use Rattle.wh_cert.specs.declared.certificate.Certificate.{Certificate}
 use Rattle.wh_cert.specs.declared.item.Item as code
-use Rattle.wh_cert.specs.Said.{said, said_item}
+use Rattle.wh_cert.specs.Said.{said_item}
 use Rattle.wh_cert_text.specs.declared.cert_reader.CertReader.{CertReader}
-use Rattle.wh_cert_text.specs.declared.reading.Reading.{Reading}
 use Rattle.wh_checker_walk.specs.declared.walk.Walk.{Walk}
 use Rattle.wh_checker_walk.specs.Walking.{Accepts}
 use Rattle.wh_checker_walk.specs.Standing as walk
@@ -33,7 +29,15 @@ use Rattle.wh_answer.specs.declared.report.Report.TheVariants.{Yes, Rejected}
 use Rattle.wh_answer.specs.declared.report.NamedRejection.TheVariants.{Syntax}
 use Rattle.wh_top_judging.specs.Outcomes.{Judged, Told, Weighed}
 use Rattle.wh_top_naming.specs.Rows.{named_row}
-use Rattle.wh_top_judging.specs.Streamed.{HaveComeTo, ReadsAs}
+use Rattle.wh_top_judging.specs.Streamed.{HaveComeTo}
+
+-- what begins a beginning is one
+pub begins_less : (p q : List ℕ) → Begins (p ++ q) → Begins p
+begins_less p q (c, r, text) = (c, q ++ r, subst (λ b. CertText b c) (append_assoc p q r) text)
+
+-- a text begins itself
+pub begins_itself : (p : List ℕ) (c : Cert) → CertText p c → Begins p
+begins_itself p c text = (c, [], subst (λ b. CertText b c) (sym (append-nil p)) text)
 
 -- the item that a byte ends is the next
 pub is_next : (d : SystemData) (ps : List PairData) (w : Walk) (q : List ℕ) (is : List Item) (i : Item) → walk.StandsFor d ps w is
@@ -153,17 +157,10 @@ pub text_judged : (d : SystemData) (ps : List PairData) (bytes : List ℕ) (c : 
 text_judged d ps bytes c (Rejected (Syntax at)) text (r, first, e) = absurd (never_syntax d r at e)
 text_judged d ps bytes c o text w = (c, text, w)
 
--- what all bytes are read as
-pub read_as : (reading : Reading) (bytes : List ℕ) (r : Result Certificate CertSyntax)
-    → IfOk r (λ certificate. (b : List ℕ) → HasRead reading b → length b < 2 ^ 32 → CertText b (said certificate))
-    → IfErr r (λ fault. (b : List ℕ) → HasRead reading b → length b < 2 ^ 32 → FaultAt b fault.at)
-    → HasRead reading bytes → length bytes < 2 ^ 32 → ReadsAs bytes r
-read_as reading bytes (Ok certificate) text fault has short = text bytes has short
-read_as reading bytes (Err e) text fault has short = fault bytes has short
-
--- the file as far as it was read, with what holds of its bytes so far
-pub record ReadSoFar (P : List ℕ → Type 0) (given : ℕ) (held : Option (List ℕ)) (bytes : List ℕ) : Type 0 where
-  pub come : P bytes
+-- the file as far as it was read
+pub record JudgedSoFar (d : SystemData) (ps : List PairData) (r : CertReader) (w : Walk) (given : ℕ) (held : Option (List ℕ)) (bytes : List ℕ)
+    : Type 0 where
+  pub come : HaveComeTo d ps r w bytes
   pub counted : given ≡ length bytes
   pub front : Told held (λ file. bytes ≡ take given file)
 

@@ -1,13 +1,10 @@
--- How far the judging of a certificate has come whose bytes come one by one, and what its bytes are read as (ours).
-use Rattle.std.specs.Prelude.{ℕ, List, Option, Result, Ok, Err}
+-- How far the judging of a certificate has come whose bytes come one by one (ours).
+use Rattle.std.specs.Prelude.{ℕ, List, Option}
 use Rattle.wh_types.specs.Limits.{certificate_limit}
 use Rattle.wh_system.specs.Systems.{SystemData}
 use Rattle.wh_pairs.specs.PairData.{PairData}
-use Rattle.wh_cert.specs.CertText.{Begins, CertText, FaultAt}
+use Rattle.wh_cert.specs.CertText.{Begins}
 use Rattle.wh_cert.specs.Items.{Item}
-use Rattle.wh_cert.specs.Said.{said}
-use Rattle.wh_cert.specs.declared.certificate.CertSyntax.{CertSyntax}
-use Rattle.wh_cert.specs.declared.certificate.Certificate.{Certificate}
 use Rattle.wh_cert_text.specs.ItemsRead.{ItemsIn}
 use Rattle.wh_cert_text.specs.declared.cert_reader.CertReader.{CertReader}
 use Rattle.wh_cert_text.specs.Feeding as reader
@@ -28,12 +25,3 @@ HasComeTo d ps judge bytes = HaveComeTo d ps judge.reader judge.walk bytes
 -- the report says what the bytes of the certificate's file, within their limit, come to
 abbrev pub IsJudgedIn : Option (List ℕ) → SystemData → List PairData → Report → Type 0
 IsJudgedIn held d ps o = (bytes : List ℕ) × Told held (AreWithin certificate_limit bytes) × Judged d ps bytes o
-
--- what the bytes are read as: the certificate of which they are the text, or where they stop being the beginning of one
-abbrev pub ReadsAs : List ℕ → Result Certificate CertSyntax → Type 0
-ReadsAs bytes (Ok certificate) = CertText bytes (said certificate)
-ReadsAs bytes (Err fault) = FaultAt bytes fault.at
-
--- this is what the bytes of the certificate's file are read as, within their limit
-abbrev pub IsReadIn : Option (List ℕ) → Result Certificate CertSyntax → Type 0
-IsReadIn held outcome = (bytes : List ℕ) × Told held (AreWithin certificate_limit bytes) × ReadsAs bytes outcome

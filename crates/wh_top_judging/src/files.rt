@@ -1,14 +1,15 @@
-//! Reading the file of a system, with its dependency pairs; and what a file that was not read comes to.
+//! Reading the two files: the system with its dependency pairs, and the bytes of the certificate.
 
-ghost use Rattle.std.specs.Prelude.{◌≡◌, ◌≤◌, ℕ, List};
+ghost use Rattle.std.specs.Prelude.{◌≡◌, ◌≤◌, ℕ, List, IfOk, length};
+ghost use Rattle.wh_types.specs.Limits.{certificate_limit};
 ghost use Rattle.wh_types.specs.Outcome.{MatchOr};
 ghost use Rattle.wh_io.specs.Outside.{Rose};
 ghost use Rattle.wh_system.specs.SystemView.{system_data};
 ghost use Rattle.wh_pairs.specs.SystemPairs.{HasPairs, HasTooManyPairs};
 ghost use Rattle.wh_answer.specs.declared.report.ReasonWord.TheVariants as reason;
 ghost use Rattle.wh_answer.specs.declared.report.Report.TheVariants.{Refused as refused_answer};
-ghost use Rattle.wh_top_judging.specs.Outcomes.{IsProblemIn, IsSystemIn, StandsBySystem, StandsByText, UnreadBy, outside};
-ghost use Rattle.wh_top_judging.specs.Unread.{RefusedBy};
+ghost use Rattle.wh_top_judging.specs.Outcomes.{AreWithin, IsProblemIn, IsSystemIn, StandsBySystem, StandsByText, Told, UnreadBy, outside};
+ghost use Rattle.wh_top_judging.specs.Unread.{CertificateFault, RefusedBy};
 ghost use Rattle.wh_pairs.specs.Views.{pairs_data};
 ghost use Rattle.wh_types.specs.declared.want.Or.TheVariants.{NoMemory, Because};
 
@@ -20,7 +21,7 @@ use wh_pairs_making::pairs;
 use wh_read::{Refused, read_system};
 use wh_system::System;
 use wh_top_naming::word_of;
-use wh_types::Or;
+use wh_types::{Bytes, Or};
 
 /// How many bytes a system file may have.
 const SYSTEM_LIMIT: u64 = 1_048_576;
@@ -72,6 +73,23 @@ pub fn system_in<S: Shelf>(alloc: Global, shelf: &mut S, file: &str) -> Result<S
     match read_whole(alloc, shelf, file, SYSTEM_LIMIT) {
         Ok(bytes) => read_system(alloc, bytes.as_slice()).map_err(refused),
         Err(fault) => Err(unread(fault, Role::System)),
+    }
+}
+
+/// The bytes of the certificate file of that name, or why there are none.
+pub fn certificate_in<S: Shelf>(
+    alloc: Global,
+    shelf: &mut S,
+    cert: &str,
+) -> Result<Bytes, Or<Report>>
+    ensures read { MatchOr result (λ bytes. Told (S.held shelf.old cert.now) (AreWithin certificate_limit bytes))
+        (CertificateFault (S.held shelf.old cert.now) (S.faults shelf.old cert.now) (S.faults shelf.new cert.now)) }
+    ensures short { IfOk result (λ bytes. length bytes ≤ certificate_limit) }
+    ensures kept { (other : List ℕ) → S.held shelf.new other ≡ S.held shelf.old other }
+{
+    match read_whole(alloc, shelf, cert, CERTIFICATE_LIMIT) {
+        Ok(bytes) => Ok(bytes),
+        Err(fault) => Err(unread(fault, Role::Certificate)),
     }
 }
 

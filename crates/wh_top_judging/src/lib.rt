@@ -6,6 +6,5 @@ mod files;
 mod judging;
 mod streamed;
 
-pub use files::{CERTIFICATE_LIMIT, Problem, pairs_of, problem_in, system_in};
+pub use files::{CERTIFICATE_LIMIT, Problem, certificate_in, pairs_of, problem_in, system_in};
 pub use judging::{check_files, show_file, weigh};
-pub use streamed::certificate_in;

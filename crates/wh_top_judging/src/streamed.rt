@@ -1,4 +1,4 @@
-//! A certificate judged, or read, piece by piece: its file is never held whole.
+//! Judging a certificate piece by piece: its file is never held whole.
 
 ghost use Rattle.std.specs.Prelude.{◌≡◌, ◌∷◌, ◌++◌, ◌+◌, ◌-◌, ◌<◌, ◌≤◌, ◌^◌, [], ℕ, List, IfOk, OnOk, length, take, vec_len};
 ghost use Rattle.wh_types.specs.Limits.{certificate_limit};
@@ -9,15 +9,14 @@ ghost use Rattle.wh_pairs.specs.PairData.{PairData};
 ghost use Rattle.wh_pairs.specs.SystemPairs.{HasPairs};
 ghost use Rattle.wh_pairs.specs.Views.{pairs_data};
 ghost use Rattle.wh_top_judging.specs.Outcomes.{Judged};
-ghost use Rattle.wh_top_judging.specs.Streamed.{HasComeTo, IsJudgedIn, IsReadIn};
+ghost use Rattle.wh_top_judging.specs.Streamed.{HasComeTo, IsJudgedIn};
 ghost use Rattle.wh_top_judging.specs.Unread.{CertificateFault};
 
 use crate::files::{CERTIFICATE_LIMIT, Problem, unread};
 use crate::judging::told_of_check;
 use std::alloc::{AllocError, Global};
 use wh_answer::{NamedRejection, Report, Role};
-use wh_cert::{CertSyntax, Certificate};
-use wh_cert_text::{CertReader, Portion, Reading};
+use wh_cert_text::{CertReader, Portion};
 use wh_checker_walk::Walk;
 use wh_io::{Next, Pieces, Shelf};
 use wh_types::Or;
@@ -124,30 +123,6 @@ pub fn judge_file<S: Shelf>(
         match pieces.next(shelf, cert, piece) {
             Ok(Next::Bytes(count)) => judge.take_all(problem, &piece[..count])?,
             Ok(Next::End) => return Ok(judge.finish(alloc, problem)?),
-            Err(fault) => return Err(unread(Or::Because(fault), Role::Certificate)),
-        }
-    }
-}
-
-/// The certificate of which the file of that name is the text, or where its bytes stop being the beginning of one; or why
-/// the file was not read. A fault of the file comes before all that is wrong with its bytes.
-pub fn certificate_in<S: Shelf>(
-    alloc: Global,
-    shelf: &mut S,
-    cert: &str,
-) -> Result<Result<Certificate, CertSyntax>, Or<Report>>
-    ensures read { MatchOr result (IsReadIn (S.held shelf.old cert.now))
-        (CertificateFault (S.held shelf.old cert.now) (S.faults shelf.old cert.now) (S.faults shelf.new cert.now)) }
-    ensures kept { (other : List ℕ) → S.held shelf.new other ≡ S.held shelf.old other }
-{
-    let mut reading = Reading::new(alloc);
-    let mut buffer = zeros(alloc, PIECE)?;
-    let mut pieces = Pieces::new(CERTIFICATE_LIMIT);
-    loop {
-        let piece = &mut buffer[..];
-        match pieces.next(shelf, cert, piece) {
-            Ok(Next::Bytes(count)) => reading.take_all(&piece[..count])?,
-            Ok(Next::End) => return Ok(reading.finish()),
             Err(fault) => return Err(unread(Or::Because(fault), Role::Certificate)),
         }
     }

@@ -15,25 +15,12 @@ use Rattle.wh_answer.specs.declared.report.Report.TheVariants.{Yes, No, Rejected
 use Rattle.wh_top_judging.specs.Outcomes.{Shelves, Told, AreWithin, IsProblemIn, Certified}
 use Rattle.wh_top_judging.specs.Unread.{CertificateFault}
 use Rattle.wh_top_judging.proofs.Standing.{told_with, judged_stands, certificate_stands}
-use Rattle.wh_top_judging.proofs.Streaming.{never_syntax}
 use Rattle.wh_top_upgrading.specs.Upgrading.{IsUpgradedText, IsNotUpgradedFor, IsNotUpgraded, IsUpgradedIn, StandsForUpgrade}
 
 -- P holds of the certificate of which the bytes of the file are the text
 certified : (held : Option (List ℕ)) (bytes : List ℕ) (P : Cert → Type 0) → Told held (AreWithin certificate_limit bytes)
     → (c : Cert) × CertText bytes c × P c → Certified held P
 certified held bytes P is (c, text, p) = (c, p, λ b h. ((is b h).1, subst (λ x. CertText x c) (is b h).0 text))
-
--- what comes of a certificate comes of the bytes of its text
-pub text_upgraded : (d : SystemData) (ps : List PairData) (bytes : List ℕ) (c : Cert) (r : Result (List ℕ) (Or Report)) → CertText bytes c
-    → MatchOr r (IsUpgradedText d ps c) (IsNotUpgradedFor d ps c)
-    → MatchOr r (λ text. (e : Cert) × CertText bytes e × IsUpgradedText d ps e text) (IsNotUpgraded d ps bytes)
-text_upgraded d ps bytes c (Ok text) of made = (c, of, made)
-text_upgraded d ps bytes c (Err NoMemory) of none = tt
-text_upgraded d ps bytes c (Err (Because o)) of none = by o none
-  where
-    by : (o : Report) → IsNotUpgradedFor d ps c o → IsNotUpgraded d ps bytes o
-    by (Rejected (Syntax at)) (r, first, e) = absurd (never_syntax d r at e)
-    by o none = (c, of, none)
 
 -- the text of the upgraded certificate, or why there is none
 pub upgrade_stands : (s : Shelves) (file cert : List ℕ) (d : SystemData) (ps : List PairData) (bytes : List ℕ) (r : Result (List ℕ) (Or Report))

@@ -12,14 +12,14 @@ ghost use Rattle.wh_cert.specs.Said.{said};
 ghost use Rattle.wh_cert.specs.Written.{Cert};
 ghost use Rattle.wh_cert_upgrade.specs.Upgraded.{upgraded};
 ghost use Rattle.wh_top_judging.specs.Outcomes.{Weighed, outside};
-ghost use Rattle.wh_top_judging.specs.Streamed.{ReadsAs};
 ghost use Rattle.wh_top_upgrading.specs.Output.{IsTextOf};
 ghost use Rattle.wh_top_upgrading.specs.Upgrading.{IsNotUpgraded, IsNotUpgradedFor, IsUpgradedIn, IsUpgradedText, StandsForUpgrade};
 
 use crate::output::certificate_text;
 use std::alloc::Global;
 use wh_answer::{NamedRejection, Report};
-use wh_cert::{CertSyntax, Certificate};
+use wh_cert::Certificate;
+use wh_cert_text::read_certificate;
 use wh_cert_upgrade::{upgrade, upgraded_has_text};
 use wh_io::Shelf;
 use wh_top_judging::{Problem, certificate_in, problem_in, weigh};
@@ -42,25 +42,24 @@ pub fn upgrade_files<S: Shelf>(
 {
     let problem = problem_in(alloc, shelf, file)?;
     let certificate = certificate_in(alloc, shelf, cert)?;
-    upgraded_text(alloc, &problem, &certificate)
+    upgraded_text(alloc, &problem, certificate.as_slice())
 }
 
-// The upgraded text, or the report, for a system and what the bytes of a certificate were read as.
-fn upgraded_text(
-    alloc: Global,
-    problem: &Problem,
-    outcome: &Result<Certificate, CertSyntax>,
-) -> Result<Bytes, Or<Report>>
+// The upgraded text, or the report, for a system and the bytes of a certificate.
+fn upgraded_text(alloc: Global, problem: &Problem, bytes: &[u8]) -> Result<Bytes, Or<Report>>
+    requires length { length bytes.now ≤ certificate_limit }
     requires pairs { HasPairs (system_data problem.now.system) (pairs_data problem.now.pairs) }
-    requires read { (bytes : List ℕ) × ReadsAs bytes outcome.now }
-    ensures upgraded { (bytes : List ℕ) → ReadsAs bytes outcome.now → MatchOr result
-        (λ text. (c : Cert) × CertText bytes c × IsUpgradedText (system_data problem.now.system) (pairs_data problem.now.pairs) c text)
-        (IsNotUpgraded (system_data problem.now.system) (pairs_data problem.now.pairs) bytes) }
+    ensures upgraded { MatchOr result
+        (λ text. (c : Cert) × CertText bytes.now c × IsUpgradedText (system_data problem.now.system) (pairs_data problem.now.pairs) c text)
+        (IsNotUpgraded (system_data problem.now.system) (pairs_data problem.now.pairs) bytes.now) }
     ensures within { IfOk result (λ text. length text ≤ certificate_limit) }
 {
-    match outcome {
-        Ok(certificate) => upgraded_for(alloc, problem, certificate),
-        Err(fault) => Err(Or::Because(Report::Rejected(NamedRejection::Syntax { at: fault.at }))),
+    match read_certificate(alloc, bytes) {
+        Ok(certificate) => upgraded_for(alloc, problem, &certificate),
+        Err(Or::NoMemory) => Err(Or::NoMemory),
+        Err(Or::Because(fault)) => {
+            Err(Or::Because(Report::Rejected(NamedRejection::Syntax { at: fault.at })))
+        }
     }
 }
 

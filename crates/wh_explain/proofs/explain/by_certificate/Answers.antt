@@ -1,7 +1,7 @@
-use Rattle.std.proofs.Common.{◌∙◌}
+use Rattle.std.proofs.Common.{◌∙◌, subst}
 use Rattle.wh_system.specs.SystemView.{system_data}
 use Rattle.wh_pairs.specs.Views.{pairs_data}
-use Rattle.wh_top_judging.specs.Outcomes.{Shelves, outside, Stands, StandsBySystem}
+use Rattle.wh_top_judging.specs.Outcomes.{Shelves, outside, Stands, StandsBySystem, Judged}
 use Rattle.wh_top_judging.specs.Unread.{CertificateFault}
 use Rattle.wh_top_judging.proofs.Standing.{carry, certificate_stands, judged_stands}
 use Rattle.wh_explain.specs.Meaning.{IsUnweighed}
@@ -22,11 +22,11 @@ returns-clause-says g c =
     let s : Shelves = outside (g.S.Shelf.held c.args.shelf.now) (g.S.Shelf.faults c.args.shelf.now) (g.S.Shelf.faults c.certificate_in.new.shelf) in
     let d = system_data c.in_ok-problem.problem.system in
     let ps = pairs_data c.in_ok-problem.problem.pairs in
-    let (bytes, of_file, reads) = c.in_ok-certificate.ensures.read in
-    let said = c.in_ok-explained.ensures.says bytes reads in (
+    let said = c.in_ok-explained.ensures.says in (
       said.0,
-      judged_stands s c.args.file.now c.args.cert.now d ps bytes said.0 c.in_ok-problem.ensures.read
-          (λ held h. of_file held (c.in_ok-problem.ensures.kept c.args.cert.now ∙ h)) said.1,
+      judged_stands s c.args.file.now c.args.cert.now d ps c.in_ok-certificate.certificate said.0 c.in_ok-problem.ensures.read
+          (λ bytes h. c.in_ok-certificate.ensures.read bytes (c.in_ok-problem.ensures.kept c.args.cert.now ∙ h))
+          (subst (λ b. Judged d ps b said.0) c.as_slice.ensures said.1),
       said.2,
     )
 

@@ -2,15 +2,14 @@ use Rattle.std.proofs.Common.{◌≡◌, ◌≤◌, ◌-◌, ℕ, List, None, ve
 use Rattle.wh_system.specs.SystemView.{system_data}
 use Rattle.wh_pairs.specs.Views.{pairs_data}
 use Rattle.wh_types.specs.Limits.{certificate_limit}
-use Rattle.wh_top_judging.specs.Streamed.{HasComeTo}
-use Rattle.wh_top_judging.proofs.Streaming.{ReadSoFar}
+use Rattle.wh_top_judging.proofs.Streaming.{JudgedSoFar}
 use Rattle.wh_top_judging.proofs.streamed.judge_file.Given as goal
 
 abbrev pub invariant-loop-count : goal.invariant-loop-count
 invariant-loop-count g l =
     let s = g.S.Shelf in
     record {
-      so_far : (bytes : List ℕ) × ReadSoFar (HasComeTo (system_data l.problem.system) (pairs_data l.problem.pairs) l.judge) l.pieces.given (s.held l.initial.shelf l.cert) bytes;
+      so_far : (bytes : List ℕ) × JudgedSoFar (system_data l.problem.system) (pairs_data l.problem.pairs) l.judge.reader l.judge.walk l.pieces.given (s.held l.initial.shelf l.cert) bytes;
       limit : l.pieces.limit ≡ certificate_limit;
       short : l.pieces.given ≤ certificate_limit;
       running : l.pieces.ended ≡ None;

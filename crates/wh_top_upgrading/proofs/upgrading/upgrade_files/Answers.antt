@@ -1,10 +1,13 @@
-use Rattle.std.proofs.Common.{◌∙◌}
+use Rattle.std.proofs.Common.{◌∙◌, subst}
 use Rattle.wh_system.specs.SystemView.{system_data}
 use Rattle.wh_pairs.specs.Views.{pairs_data}
 use Rattle.wh_top_judging.specs.Outcomes.{Shelves, outside}
 use Rattle.wh_top_judging.specs.Unread.{CertificateFault}
 use Rattle.wh_top_judging.proofs.Standing.{carry}
-use Rattle.wh_top_upgrading.specs.Upgrading.{StandsForUpgrade}
+use Rattle.wh_types.specs.Outcome.{MatchOr}
+use Rattle.wh_cert.specs.Written.{Cert}
+use Rattle.wh_cert.specs.CertText.{CertText}
+use Rattle.wh_top_upgrading.specs.Upgrading.{IsUpgradedText, IsNotUpgraded, StandsForUpgrade}
 use Rattle.wh_top_upgrading.proofs.Standing.{fault_upgrade, upgrade_stands}
 use Rattle.wh_top_upgrading.proofs.upgrading.upgrade_files.Goals as goal
 
@@ -22,11 +25,7 @@ returns-clause-upgraded g c =
     let s : Shelves = outside (g.S.Shelf.held c.args.shelf.now) (g.S.Shelf.faults c.args.shelf.now) (g.S.Shelf.faults c.certificate_in.new.shelf) in
     let d = system_data c.in_ok-problem.problem.system in
     let ps = pairs_data c.in_ok-problem.problem.pairs in
-    let (bytes, of_file, reads) = c.in_ok-certificate.ensures.read in
-    upgrade_stands s c.args.file.now c.args.cert.now d ps bytes c.upgraded_text.result c.in_ok-problem.ensures.read
-    (λ held h. of_file held (c.in_ok-problem.ensures.kept c.args.cert.now ∙ h)) (c.upgraded_text.ensures.upgraded bytes reads)
-
-pub upgraded_text-requires-clause-read : goal.upgraded_text-requires-clause-read
-upgraded_text-requires-clause-read g c =
-    let (bytes, of_file, reads) = c.in_ok-certificate.ensures.read in
-    (bytes, reads)
+    upgrade_stands s c.args.file.now c.args.cert.now d ps c.in_ok-certificate.certificate c.upgraded_text.result c.in_ok-problem.ensures.read
+    (λ bytes h. c.in_ok-certificate.ensures.read bytes (c.in_ok-problem.ensures.kept c.args.cert.now ∙ h))
+    (subst (λ b. MatchOr c.upgraded_text.result (λ text. (e : Cert) × CertText b e × IsUpgradedText d ps e text) (IsNotUpgraded d ps b))
+    c.as_slice.ensures c.upgraded_text.ensures.upgraded)
