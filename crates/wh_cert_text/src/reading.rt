@@ -102,16 +102,16 @@ fn add(certificate: &mut Certificate, alloc: Global, item: Item) -> Result<(), A
             Ok(())
         }
         Item::NoHead { term } => {
-            *certificate = no_head(alloc, Box::into_inner(term));
+            *certificate = no_head(alloc, term);
             Ok(())
         }
-        Item::Node(node) => add_node(certificate, Box::into_inner(node)),
+        Item::Node(node) => add_node(certificate, node),
         Item::Step(step) => add_step(certificate, step),
         Item::At(at) => {
             set_place(certificate, at);
             Ok(())
         }
-        Item::Put(put) => add_put(certificate, Box::into_inner(put)),
+        Item::Put(put) => add_put(certificate, put),
         Item::End => Ok(()),
     }
 }
@@ -129,11 +129,11 @@ fn yes_head(alloc: Global, version: u32, ranks: Numbers, pairs: u32) -> Certific
 }
 
 /// A NO certificate before its steps.
-fn no_head(alloc: Global, term: RawTerm) -> Certificate
-    ensures { said result ≡ no_cert (rtm term) [] [] [] }
+fn no_head(alloc: Global, term: Box<RawTerm>) -> Certificate
+    ensures { said result ≡ no_cert (rtm term.value) [] [] [] }
 {
     Certificate::No(NoCertificate {
-        term,
+        term: Box::into_inner(term),
         steps: Steps::new(alloc),
         at: Path::new(alloc),
         puts: Puts::new(alloc),
@@ -141,11 +141,11 @@ fn no_head(alloc: Global, term: RawTerm) -> Certificate
 }
 
 /// Adds a node to a YES certificate.
-fn add_node(certificate: &mut Certificate, node: Node) -> Result<(), AllocError>
-    ensures { OnOk result (said certificate.new ≡ with_item (said certificate.old) (node_item (said_node node))) }
+fn add_node(certificate: &mut Certificate, node: Box<Node>) -> Result<(), AllocError>
+    ensures { OnOk result (said certificate.new ≡ with_item (said certificate.old) (node_item (said_node node.value))) }
 {
     match certificate {
-        Certificate::Yes(yes) => yes.nodes.push(node),
+        Certificate::Yes(yes) => yes.nodes.push(Box::into_inner(node)),
         Certificate::No(_) => Ok(()),
     }
 }
@@ -171,12 +171,12 @@ fn set_place(certificate: &mut Certificate, at: Path)
 }
 
 /// Adds what is put for a variable to a NO certificate.
-fn add_put(certificate: &mut Certificate, put: Put) -> Result<(), AllocError>
-    ensures { OnOk result (said certificate.new ≡ with_item (said certificate.old) (put_item (said_put put))) }
+fn add_put(certificate: &mut Certificate, put: Box<Put>) -> Result<(), AllocError>
+    ensures { OnOk result (said certificate.new ≡ with_item (said certificate.old) (put_item (said_put put.value))) }
 {
     match certificate {
         Certificate::Yes(_) => Ok(()),
-        Certificate::No(no) => no.puts.push(put),
+        Certificate::No(no) => no.puts.push(Box::into_inner(put)),
     }
 }
 
