@@ -215,6 +215,18 @@ VALUES = [
               ("compose' [F Succ, F (* 2)] 3", "7"), ("builder [1, 2] []", "[2, 1]"), ("map (run (F (+ 1))) [1]", "[2]"),
               ("uncurry (+) (1, 2)", "3"), ("flip (-) 1 3", "2"), ("curry fst 1 True", "1"), ("either Succ (const 0) (Left 4)", "5"),
               ("(foldr (.) id [Succ, (* 2)]) 4", "9"), ("map ($ 3) [Succ, (+ 2)]", "[4, 5]")]),
+    ("synonyms", """
+        data E = P | Q
+        type Result = Either E
+        type Also = Result
+        type Many = []
+        type Pairs a = Many (a, a)
+        first' :: Pairs a -> Also a
+        first' [] = Left P
+        first' ((x, _) : _) = Right x
+        whole :: Result Nat -> (Either E) Nat
+        whole = either Left (Right . Succ)
+        """, [("map whole [Left Q, Right 1]", "[Left Q, Right 2]"), ("first' [(1, 2)]", "Right 1"), ("(first' [] :: Result Nat)", "Left P")]),
     ("arity", """
         add :: Nat -> Nat -> Nat
         add = \\x -> \\y -> x + y
@@ -333,6 +345,8 @@ REFUSALS = [
     ("ambiguous type", "f = [] == []", "4:8", "give a type by `::`"),
     ("Int", "f :: Int -> Int\nf x = x", "4:6", "the numbers are those of `Nat`"),
     ("kind", "f :: Maybe -> Nat\nf x = Zero", "4:6", "`Maybe` has 1 type argument, and none is given"),
+    ("synonym as a type", "type R = Either Nat\nf :: R -> Nat\nf x = Zero", "5:6", "`R` has 1 type argument, and none is given"),
+    ("synonym in part", "type P a b = (a, b)\ntype Q = P Nat", "5:10", "`P` has 2 type arguments, and 1 are given"),
     ("fields", "f (Just) = Zero", "4:4", "`Just` has 1 field, and 0 stand in this pattern"),
     ("name twice", "f x x = x", "4:5", "`x` stands twice in the patterns"),
     ("function twice", "f x = x\ng x = x\nf y = y", "6:1", "`f` is defined in line 4, too"),

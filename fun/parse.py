@@ -396,9 +396,9 @@ class Parser:
             return head
         if head.is_variable:
             refuse(head.at, f"the type variable `{head.head}` can't have arguments in the language")
-        if head.arguments:
+        if head.head in ("->", "[]") and head.arguments or head.head.startswith("("):
             refuse(arguments[0].at, "this type can't have arguments")
-        return s.Type(head.head, arguments, head.at)
+        return s.Type(head.head, head.arguments + arguments, head.at)
 
     def atype(self):
         """A name, a variable, a list, a tuple, or a type in parentheses."""
