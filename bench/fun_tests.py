@@ -183,6 +183,21 @@ VALUES = [
         """, [("1 <+> 2 <+> 3", "11"), ("eval (L 1 :+ L 2 :+ L 3)", "9"), ("1 + 2 `same` 3", "True"),
               ("map (subtract' 1) [3, 4]", "[2, 3]"), ("map (5 -) [3, 4]", "[2, 1]"), ("(Succ .: (+)) 1 2", "4"),
               ("zipWith (:) [1] [[2]]", "[[1, 2]]")]),
+    ("local operators", """
+        infixr 5 :+
+        infixl 4 -.-
+        data E = L Nat | E :+ E
+        fold (<+>) z = go
+          where go [] = z
+                go (x : xs) = x <+> go xs
+        apply :: (a -> b -> c) -> a -> b -> c
+        (f `apply` x) y = f x y
+        L a :+ L b -.- n = a - b - n
+        _ -.- n = n
+        minus' x = x <-> x <-> 1
+          where infixr 3 <->
+                a <-> b = a - b
+        """, [("fold (-) 0 [5, 3, 1]", "3"), ("apply (-) 3 1", "2"), ("(L 5 :+ L 2) -.- 1", "2"), ("L 5 -.- 1", "1"), ("minus' 3", "1")]),
     ("classes", """
         data S = P | Q Nat | R S [Nat] deriving (Eq, Ord, Show)
         data Pair' a b = Pair' a b deriving (Eq, Ord)
@@ -357,6 +372,10 @@ REFUSALS = [
     ("length by Int", "module M where\nf xs = length xs", "2:8", "counts by `Int`"),
     ("length of both", "module M where\nimport Nat\nf xs = length xs", "3:8", "is a name of Nat and of the Prelude"),
     ("operators", "f x y z = x == y == z", "4:18", "bind equally: put parentheses"),
+    ("operator on the left", "infix 6 :&\ninfixl 7 |*|\ndata V = Nat :& Nat\na :& b |*| c = a", "7:3", "`|*|`, which is defined here, binds more than `:&`"),
+    ("fixity of a local operator", "f (+) x = x + x * 2", "4:13", "`+` has a fixity where it is defined elsewhere, which does not hold here"),
+    ("fixity of a block", "f x = x <> x <> x where { infixr 3 <>; a <> b = a }\ng x = x <> x <> x where a <> b = a", "5:9", "`<>` has a fixity where"),
+    ("two fixities", "infixl 3 +++\na +++ b = a\nf x = x where { infixr 3 +++; a +++ b = a }", "6:26", "`+++` has two fixities in this module"),
     ("section", "f x = (x + x *)", "4:14", "binds more than what stands before it"),
     ("comment", "f x = x {- oh", "4:9", "has no end"),
     ("parenthesis", "f x = (x\ng = f", "5:1", "`)` is wanted behind the expression, before the line"),
