@@ -82,7 +82,8 @@ def told_gate(gate):
         return ["not stated: no log of `rt ci` was given when this release was made"]
     state = f"passed, {gate.edits} edits refused" if gate.passed else "NOT PASSED, or the log does not say so"
     told = [state, *(f"  {line}" for line in gate.lines)]
-    return told + [f"  from a log with the SHA-256 sum {gate.sum}; that it is of this commit is the maker's word"]
+    told.append(f"  from a log with the SHA-256 sum {gate.sum};")
+    return told + ["  that it is of this commit, and that these programs were built by it, is the maker's word"]
 
 
 def told_program(program):
