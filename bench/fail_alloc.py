@@ -1,5 +1,5 @@
 #!/usr/bin/env python3
-"""Runs the program with one refused allocation a run, for each in turn or for many of them, and looks how each run ends.
+"""Runs the program with one refused allocation a run, each in turn or many of them, and looks how each run ends.
 
     bench/fail_alloc.py              # the program that ./wanda builds
     bench/fail_alloc.py PROGRAM      # another build of it
@@ -10,8 +10,8 @@ counts the calls of `malloc` and `realloc`, the two by which the program takes m
 given number.
 
 Where a row takes more than MOST allocations, the first FIRST are refused and SPREAD more at equal distances; the table
-says how many runs there were. It wants a C compiler (`$CC`, or `cc`) and the GNU C Library; the status is 77 where these
-can't make such a library.
+says how many runs there were. It wants a C compiler (`$CC`, or `cc`) and the GNU C Library; the status is 77 where
+these can't make such a library.
 """
 
 import collections
@@ -97,7 +97,8 @@ class Refusing:
         """The status, the output and the number of allocations; 0 refuses none, since they are counted from 1."""
         reads, writes = os.pipe()
         told = {"LD_PRELOAD": self.library, "REFUSED": str(refused), "REPORT": str(writes)}
-        ran = subprocess.run([self.program, *words], cwd=EXAMPLES, env=told, pass_fds=[writes], capture_output=True, timeout=600)
+        how = {"env": told, "pass_fds": [writes], "capture_output": True, "timeout": 600}
+        ran = subprocess.run([self.program, *words], cwd=EXAMPLES, **how)
         os.close(writes)
         made = int.from_bytes(os.read(reads, 8), sys.byteorder)
         os.close(reads)
@@ -127,7 +128,8 @@ def sweep(refusing, name, words, is_right):
         ends[kind] += 1
         if kind == "other":
             print(f"{name}: with allocation {number} refused, of {made} that were asked for, it ends with {ended}")
-    print(f"{name:34}{' '.join(words):36}{count:12,}{sum(ends.values()):9,}{ends['6']:10,}{ends['answer']:9,}{ends['other']:8,}", flush=True)
+    counts = f"{count:12,}{sum(ends.values()):9,}{ends['6']:10,}{ends['answer']:9,}{ends['other']:8,}"
+    print(f"{name:34}{' '.join(words):36}{counts}", flush=True)
     return not ends["other"]
 
 

@@ -29,7 +29,7 @@ def sources_of(top):
 
 
 def output_name(source):
-    """The file of a page: docs/TUTORIAL.md is TUTORIAL.html, README.md is index.html, and that of a folder has its name."""
+    """The file of a page: TUTORIAL.html of docs/TUTORIAL.md; index.html of README.md, and of a folder's its name."""
     folder, name = os.path.split(source)
     if name != "README.md":
         return name[: -len(".md")] + ".html"

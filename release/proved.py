@@ -14,11 +14,12 @@ How to prove it anew, which takes the kit and about an hour (bench/COSTS.md), at
     git checkout {commit}
     rt version                       # prints: {kit}
     rt ci --anew > gate.log          # proves all crates, tries the edits that must be refused, and builds the programs
-    sha256sum crates/*/out/wanda*    # the sums of libexec/wanda/programs below
+    sha256sum {programs}
     ./wanda-release DIR --gate gate.log
 
-The last command makes this archive again, byte for byte where the log is the same. The sums at the end of this file are
-checked by `sha256sum -c`: those of the archive's files where it was unpacked, those of the sources in the clone.
+The programs then have the sums of libexec/wanda/programs below, and the last command makes this archive again, byte for
+byte where the log is the same. The sums at the end of this file are checked by `sha256sum -c`: those of the archive's
+files where it was unpacked, those of the sources in the clone.
 
     grep -E '  (README$|bin/|libexec/|share/)' PROVED | sha256sum -c --quiet
     grep -vE '  (README$|bin/|libexec/|share/)' PROVED | sha256sum -c --quiet 2> /dev/null
@@ -81,7 +82,8 @@ def told_gate(gate):
         return ["not stated: no log of `rt ci` was given when this release was made"]
     state = f"passed, {gate.edits} edits refused" if gate.passed else "NOT PASSED, or the log does not say so"
     told = [state, *(f"  {line}" for line in gate.lines)]
-    return told + [f"  from a log with the SHA-256 sum {gate.sum}; that it is of this commit is the maker's word"]
+    told.append(f"  from a log with the SHA-256 sum {gate.sum};")
+    return told + ["  that it is of this commit, and that these programs were built by it, is the maker's word"]
 
 
 def told_program(program):
@@ -100,6 +102,7 @@ def text(tree, kit, gate, programs, sums):
     lines += ["programs", *(f"  {told_program(it)}" for it in programs)]
     sums = [f"{value}  {path}" for path, value in sorted(sums.items())]
     sources = [f"{value}  {path}" for path, value in sorted(tree.sums.items())]
-    how = HOW.format(commit=tree.commit, kit=kit)
+    built = " ".join(f"crates/{it.crate}/out/{it.crate}" for it in programs)
+    how = HOW.format(commit=tree.commit, kit=kit, programs=built)
     parts = ["\n".join(lines), how.rstrip(), "Sums of the files in this archive:", "\n".join(sums)]
     return "\n\n".join([*parts, "Sums of the sources:", "\n".join(sources)]) + "\n"
