@@ -1,5 +1,5 @@
 -- What a hunt answers, and what an output of it means that begins with YES or NO.
-use Rattle.std.specs.Prelude.{ℕ, ◌≡◌, ◌≤◌, ◌⊎◌, ◌++◌, List, ◌∷◌, [], codes}
+use Rattle.std.specs.Prelude.{ℕ, ◌≡◌, ◌<◌, ◌⊎◌, ◌++◌, List, ◌∷◌, [], codes}
 use Rattle.std.specs.Fmt.{decimal}
 use Rattle.wh_system.specs.Systems.{SystemData}
 use Rattle.wh_pairs.specs.PairData.{PairData}
@@ -30,12 +30,13 @@ IsLoopOf d ps text = (c : Cert) × IsNo c × CertText text c × IsValidCert d ps
 abbrev pub IsHunted : SystemData → List PairData → List ℕ → Type 0
 IsHunted d ps text = (IsLoopOf d ps text × BeginsWith (codes "NO") text) ⊎ IsFoundText d ps usual_options text
 
--- the line behind a MAYBE: how much work the hunt for loops did, and whether it had nothing left or no work left
+-- the line behind a MAYBE: how much work the hunt for loops did, less than it might where it had nothing left to do, and
+-- else all of it
 abbrev pub hunted_line : ℕ → List ℕ → List ℕ
 hunted_line done word = codes "hunted loops " ++ decimal done ++ 32 ∷ word ++ 10 ∷ []
 
 pub data IsEndOf (work : ℕ) : List ℕ → Type 0 where
-  exhausted : (done : ℕ) → done ≤ work → IsEndOf work (hunted_line done (codes "exhausted"))
+  exhausted : (done : ℕ) → done < work → IsEndOf work (hunted_line done (codes "exhausted"))
   spent : IsEndOf work (hunted_line work (codes "spent"))
 
 -- what stands behind the line of an answer: behind MAYBE how the hunt ended, and else nothing

@@ -1,6 +1,6 @@
 //! The text of a hunt's answer: that of the report, and behind MAYBE how the hunt for loops ended.
 
-ghost use Rattle.std.specs.Prelude.{◌≡◌, ◌≤◌, ◌++◌, ℕ, List, IfOk, OnOk};
+ghost use Rattle.std.specs.Prelude.{◌≡◌, ◌<◌, ◌++◌, ℕ, List, IfOk, OnOk};
 ghost use Rattle.wh_hunt.specs.Hunting.{IsEndOf, IsTold, hunted_line};
 
 use std::alloc::{AllocError, Global};
@@ -24,16 +24,18 @@ pub fn text_of(alloc: Global, report: &Report, given: u32, left: u64) -> Result<
 fn append_end(text: &mut Bytes, given: u32, left: u64) -> Result<(), AllocError>
     ensures { OnOk result ((more : List ℕ) × IsEndOf given more × (text.new ≡ text.old ++ more)) }
 {
-    if left == 0 {
+    if left == 0 || given == 0 {
         append_line(text, given, b"spent")
     } else {
         append_line(text, done(given, left), b"exhausted")
     }
 }
 
-// How much of the work was done.
+// How much of the work was done, where some is left.
 fn done(given: u32, left: u64) -> u32
-    ensures { result ≤ given }
+    requires some { 0 < left }
+    requires given { 0 < given }
+    ensures { result < given }
 {
     let rest = left.min(u64::from(given)) as u32;
     given - rest
