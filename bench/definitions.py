@@ -6,11 +6,13 @@
     bench/definitions.py --check          # whether docs/DEFINITIONS.md has just these lists
     bench/definitions.py --write          # puts them there
 
-It begins with the words in the clauses of `run` (crates/wh_top/src/program.rt). A word is looked up in its file: it is defined there, or a
-line `use Rattle.CRATE.specs.FILE.{..}` imports it; then the words of its own definition are looked up in the same way. The lists are: what
-follows from the clause `termination`; what `non_termination` needs besides; what all other clauses of `run` need besides; and the files that
-no clause of `run` rests on. Words of std and the program's own types (`specs.declared`) are no files of specs/; the latter are told apart.
-A variable that is called like a word of its file counts as that word, so a list may name a definition too many, but none too few.
+It begins with the words in the clauses of `run` (crates/wh_top/src/program.rt). A word is looked up in its file: it is
+defined there, or a line `use Rattle.CRATE.specs.FILE.{..}` imports it; then the words of its own definition are looked
+up in the same way. There are four lists: the files that the clause `termination` rests on; those that
+`non_termination` needs besides; those that all other clauses of `run` need besides; and those that no clause of `run`
+rests on. Words of std and the program's own types (`specs.declared`) are in no file of specs/; the latter are printed
+apart. A variable with the name of a word of its file counts as that word, so a list may have a definition too many, but
+none too few.
 """
 
 import argparse
@@ -81,7 +83,7 @@ def blocks_of(text):
 
 
 def names_in(block):
-    """The words that an item defines, constructors among them. Fields do not count: they are named behind a value alone."""
+    """The words that an item defines, with constructors. Fields do not count: they are named behind a value alone."""
     names = set(NAMED.findall(block))
     if RECORD.match(block):
         return names
@@ -185,7 +187,8 @@ def lines_of(files):
 def lists():
     """The four lists, each with its title, the words of its files, and the types of the program that it names first."""
     before, types_before = set(), set()
-    for title, names in (("YES", [YES]), ("NO, besides", [YES, NO]), ("the other clauses, besides", list(clauses()[0]))):
+    parts = (("YES", [YES]), ("NO, besides", [YES, NO]), ("the other clauses, besides", list(clauses()[0])))
+    for title, names in parts:
         words, types = from_clauses(names)
         known = {path for path, _ in before}
         yield title, by_file((path, name) for path, name in words if path not in known), types - types_before
@@ -196,7 +199,7 @@ def lists():
 
 
 def page_with(blocks):
-    """docs/DEFINITIONS.md with these lists in place of its own, which are its only indented lines that begin with a crate."""
+    """docs/DEFINITIONS.md with these lists in place of its own: its only indented lines that begin with a crate."""
     page, count = LIST.subn(lambda _: blocks.pop(0), PAGE.read_text())
     if blocks or count != 4:
         sys.exit(f"docs/DEFINITIONS.md has {count} lists, and not 4")
@@ -208,7 +211,8 @@ def print_lists(named):
     for title, files, types in lists():
         print(f"== {title}: {len(files)} files")
         if named:
-            print(*(f"{path.parts[-3]} {path.stem}: {', '.join(sorted(files[path]))}" for path in sorted(files)), sep="\n")
+            for path in sorted(files):
+                print(f"{path.parts[-3]} {path.stem}: {', '.join(sorted(files[path]))}")
         else:
             print(*lines_of(files), sep="\n")
         if types:

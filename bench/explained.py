@@ -3,8 +3,7 @@
 
     bench/explained.py [--write]        # --write: puts there what it prints
 
-Each system is explained by a search and by each certificate for it, which begins with the system's name, and its graph is
-drawn.
+Each system is explained by a search, and by each certificate whose name begins with the system's; its graph is drawn.
 """
 
 import argparse
@@ -45,7 +44,8 @@ def main():
     if write:
         STORED.write_text(new)
         return 0
-    sys.stdout.writelines(difflib.unified_diff(old.splitlines(True), new.splitlines(True), "bench/explained.txt", "printed"))
+    differs = difflib.unified_diff(old.splitlines(True), new.splitlines(True), "bench/explained.txt", "printed")
+    sys.stdout.writelines(differs)
     return int(new != old)
 
 

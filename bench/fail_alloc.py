@@ -4,12 +4,14 @@
     bench/fail_alloc.py              # the program that ./wanda builds
     bench/fail_alloc.py PROGRAM      # another build of it
 
-Each run must end with status 6 and the line `OUT OF MEMORY`, or with the answer and status of the run that nothing is refused
-in, and that one must end as its row says. A small library that is loaded before the C library's (`LD_PRELOAD`) counts the calls of
-`malloc` and `realloc`, the two by which the program takes memory, and refuses the one with the given number.
+Each run must end with status 6 and the line `OUT OF MEMORY`, or with the answer and status of the run that nothing is
+refused in, and that one must end as its row says. A small library that is loaded before the C library's (`LD_PRELOAD`)
+counts the calls of `malloc` and `realloc`, the two by which the program takes memory, and refuses the one with the
+given number.
 
-Where a row takes more than MOST allocations, the first FIRST are refused and SPREAD more at equal distances; the table says how many runs
-there were. It wants a C compiler (`$CC`, or `cc`).
+Where a row takes more than MOST allocations, the first FIRST are refused and SPREAD more at equal distances; the table
+says how many runs there were. It wants a C compiler (`$CC`, or `cc`) and the GNU C Library; the status is 77 where these
+can't make such a library.
 """
 
 import collections
@@ -23,6 +25,7 @@ PROGRAM = f"{TOP}/crates/wanda/out/wanda"
 EXAMPLES = f"{TOP}/examples"
 MOST, FIRST, SPREAD = 5_000, 300, 1_000
 OUT_OF_MEMORY = 6, b"OUT OF MEMORY\n"
+LACKS_A_TOOL = 77
 
 REFUSING = r"""
 #include <errno.h>
@@ -80,7 +83,15 @@ class Refusing:
         with open(source, "w", encoding="utf-8") as file:
             file.write(REFUSING)
         words = [os.environ.get("CC", "cc"), "-O1", "-shared", "-fPIC", "-o", self.library, source]
-        subprocess.run(words, check=True)
+        self.is_made = subprocess.run(words).returncode == 0 and self.counts()
+
+    def counts(self):
+        """Whether the library is loaded and counts: with other C libraries than GNU's it may not be."""
+        try:
+            _, made = self.run(["gen", "1"])
+        except subprocess.SubprocessError:
+            return False
+        return made > 0
 
     def run(self, words, refused=0):
         """The status, the output and the number of allocations; 0 refuses none, since they are counted from 1."""
@@ -140,6 +151,9 @@ def main():
         return 2
     with tempfile.TemporaryDirectory(prefix="fail-alloc-") as folder:
         refusing = Refusing(program, folder)
+        if not refusing.is_made:
+            print("the C compiler and library here make nothing that counts allocations")
+            return LACKS_A_TOOL
         print(f"{'':34}{'words':36}{'allocations':>12}{'runs':>9}{'status 6':>10}{'answer':>9}{'other':>8}")
         good = True
         for name, words, text in CHECKS:

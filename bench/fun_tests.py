@@ -183,6 +183,21 @@ VALUES = [
         """, [("1 <+> 2 <+> 3", "11"), ("eval (L 1 :+ L 2 :+ L 3)", "9"), ("1 + 2 `same` 3", "True"),
               ("map (subtract' 1) [3, 4]", "[2, 3]"), ("map (5 -) [3, 4]", "[2, 1]"), ("(Succ .: (+)) 1 2", "4"),
               ("zipWith (:) [1] [[2]]", "[[1, 2]]")]),
+    ("local operators", """
+        infixr 5 :+
+        infixl 4 -.-
+        data E = L Nat | E :+ E
+        fold (<+>) z = go
+          where go [] = z
+                go (x : xs) = x <+> go xs
+        apply :: (a -> b -> c) -> a -> b -> c
+        (f `apply` x) y = f x y
+        L a :+ L b -.- n = a - b - n
+        _ -.- n = n
+        minus' x = x <-> x <-> 1
+          where infixr 3 <->
+                a <-> b = a - b
+        """, [("fold (-) 0 [5, 3, 1]", "3"), ("apply (-) 3 1", "2"), ("(L 5 :+ L 2) -.- 1", "2"), ("L 5 -.- 1", "1"), ("minus' 3", "1")]),
     ("classes", """
         data S = P | Q Nat | R S [Nat] deriving (Eq, Ord, Show)
         data Pair' a b = Pair' a b deriving (Eq, Ord)
@@ -215,6 +230,18 @@ VALUES = [
               ("compose' [F Succ, F (* 2)] 3", "7"), ("builder [1, 2] []", "[2, 1]"), ("map (run (F (+ 1))) [1]", "[2]"),
               ("uncurry (+) (1, 2)", "3"), ("flip (-) 1 3", "2"), ("curry fst 1 True", "1"), ("either Succ (const 0) (Left 4)", "5"),
               ("(foldr (.) id [Succ, (* 2)]) 4", "9"), ("map ($ 3) [Succ, (+ 2)]", "[4, 5]")]),
+    ("synonyms", """
+        data E = P | Q
+        type Result = Either E
+        type Also = Result
+        type Many = []
+        type Pairs a = Many (a, a)
+        first' :: Pairs a -> Also a
+        first' [] = Left P
+        first' ((x, _) : _) = Right x
+        whole :: Result Nat -> (Either E) Nat
+        whole = either Left (Right . Succ)
+        """, [("map whole [Left Q, Right 1]", "[Left Q, Right 2]"), ("first' [(1, 2)]", "Right 1"), ("(first' [] :: Result Nat)", "Left P")]),
     ("arity", """
         add :: Nat -> Nat -> Nat
         add = \\x -> \\y -> x + y
@@ -333,6 +360,8 @@ REFUSALS = [
     ("ambiguous type", "f = [] == []", "4:8", "give a type by `::`"),
     ("Int", "f :: Int -> Int\nf x = x", "4:6", "the numbers are those of `Nat`"),
     ("kind", "f :: Maybe -> Nat\nf x = Zero", "4:6", "`Maybe` has 1 type argument, and none is given"),
+    ("synonym as a type", "type R = Either Nat\nf :: R -> Nat\nf x = Zero", "5:6", "`R` has 1 type argument, and none is given"),
+    ("synonym in part", "type P a b = (a, b)\ntype Q = P Nat", "5:10", "`P` has 2 type arguments, and 1 are given"),
     ("fields", "f (Just) = Zero", "4:4", "`Just` has 1 field, and 0 stand in this pattern"),
     ("name twice", "f x x = x", "4:5", "`x` stands twice in the patterns"),
     ("function twice", "f x = x\ng x = x\nf y = y", "6:1", "`f` is defined in line 4, too"),
@@ -343,6 +372,10 @@ REFUSALS = [
     ("length by Int", "module M where\nf xs = length xs", "2:8", "counts by `Int`"),
     ("length of both", "module M where\nimport Nat\nf xs = length xs", "3:8", "is a name of Nat and of the Prelude"),
     ("operators", "f x y z = x == y == z", "4:18", "bind equally: put parentheses"),
+    ("operator on the left", "infix 6 :&\ninfixl 7 |*|\ndata V = Nat :& Nat\na :& b |*| c = a", "7:3", "`|*|`, which is defined here, binds more than `:&`"),
+    ("fixity of a local operator", "f (+) x = x + x * 2", "4:13", "`+` has a fixity where it is defined elsewhere, which does not hold here"),
+    ("fixity of a block", "f x = x <> x <> x where { infixr 3 <>; a <> b = a }\ng x = x <> x <> x where a <> b = a", "5:9", "`<>` has a fixity where"),
+    ("two fixities", "infixl 3 +++\na +++ b = a\nf x = x where { infixr 3 +++; a +++ b = a }", "6:26", "`+++` has two fixities in this module"),
     ("section", "f x = (x + x *)", "4:14", "binds more than what stands before it"),
     ("comment", "f x = x {- oh", "4:9", "has no end"),
     ("parenthesis", "f x = (x\ng = f", "5:1", "`)` is wanted behind the expression, before the line"),

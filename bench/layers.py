@@ -4,9 +4,9 @@
     bench/layers.py                       # tells what differs
     bench/layers.py --write               # makes the column "stands on" anew
 
-Each crate has one row in these tables, below the rows of the crates that it stands on. The column "stands on" has
-the nearest crates: those of a crate's line in crates.txt that no other crate of the line stands on, directly or not.
-A table may leave that column out.
+The page has a table for each family of crates.txt, with a row for each of its crates, all in the order of crates.txt.
+The column "stands on" has the nearest crates: those of a crate's line in crates.txt that no other crate of the line
+stands on, directly or not. A table may leave that column out.
 """
 
 import argparse
@@ -19,12 +19,29 @@ PAGE = TOP / "docs" / "ARCHITECTURE.md"
 ROW = re.compile(r"^\| (w(?:h_|anda)\w*) \|([^|\n]*)\|(?:([^|\n]*)\|)?$", re.M)
 
 
-def read_crates():
-    """The crates of crates.txt, each with those of them in its line."""
-    lines = [line.partition("#")[0] for line in (TOP / "crates.txt").read_text().splitlines()]
-    parts = [line.partition(":") for line in lines]
-    words = {front.split()[0]: behind.split() for front, colon, behind in parts if colon}
+def read_families():
+    """The families of crates.txt: of each its crates, and of each crate the words of its line."""
+    families = []
+    for block in (TOP / "crates.txt").read_text().split("\n\n"):
+        parts = [line.partition("#")[0].partition(":") for line in block.splitlines()]
+        family = {front.split()[0]: behind.split() for front, colon, behind in parts if colon}
+        families += [family] if family else []
+    return families
+
+
+def crates_of(families):
+    """All crates, each with the crates that its line has."""
+    words = {name: listed for family in families for name, listed in family.items()}
     return {name: [it for it in listed if it in words] for name, listed in words.items()}
+
+
+def tables_of(page):
+    """The crates of each table of the page, in the order of its rows."""
+    tables = []
+    for block in re.split(r"\n\s*\n", page):
+        names = [found[1] for found in ROW.finditer(block)]
+        tables += [names] if names else []
+    return tables
 
 
 def below(crates, name, known):
@@ -58,26 +75,26 @@ def with_column(page, wanted):
     return ROW.sub(row, page)
 
 
-def wrongs(page, crates):
+def wrongs(tables, families):
     """What differs, a line each."""
-    rows = [found[1] for found in ROW.finditer(page)]
+    rows, crates = sum(tables, []), sum(map(list, families), [])
     for name in sorted(set(crates) ^ set(rows)):
         yield f"{name}: in crates.txt or in docs/ARCHITECTURE.md alone"
     for name in sorted({name for name in rows if rows.count(name) > 1}):
         yield f"{name}: more than one row"
-    for at, name in enumerate(rows):
-        late = [it for it in crates.get(name, []) if it in rows[at:]]
-        if late:
-            yield f"{name}: stands on {', '.join(late)}, further down in docs/ARCHITECTURE.md"
+    if sorted(rows) == sorted(crates):
+        for table, family in zip(tables, map(list, families)):
+            if table != family:
+                yield f"the table with {table[0]}: its rows are not {', '.join(family)}, as in crates.txt"
 
 
 def main():
     parser = argparse.ArgumentParser(description=__doc__, formatter_class=argparse.RawDescriptionHelpFormatter)
     parser.add_argument("--write", action="store_true", help='make the column "stands on" anew')
     options = parser.parse_args()
-    crates, page = read_crates(), PAGE.read_text()
-    told = list(wrongs(page, crates))
-    new = with_column(page, nearest(crates))
+    families, page = read_families(), PAGE.read_text()
+    told = list(wrongs(tables_of(page), families))
+    new = with_column(page, nearest(crates_of(families)))
     if options.write:
         PAGE.write_text(new)
     elif new != page:

@@ -76,6 +76,36 @@ def translated(text, name, options=fun.Options()):
 # systems and answers
 
 
+class Remembering(ask.Runner):
+    """Searches, and keeps what was found by the sum of the system's text, in a file, where one is given.
+
+    So a run that was cut off goes on where it was, and a system that several runs ask about is searched for once. What
+    took too long is searched for again where there is more time than there was.
+    """
+
+    def __init__(self, program, seconds, file):
+        super().__init__(program, seconds)
+        self.kept, self.found = file, {}
+        if file and file.exists():
+            lines = file.read_text(encoding="utf-8").splitlines()
+            self.found = {key: ask.Answer(*fields) for key, *fields in map(json.loads, lines)}
+
+    def answer(self, text):
+        key = hashlib.sha256(text.encode()).hexdigest()
+        known = self.found.get(key)
+        if known is None or known.word == "TIMEOUT" and float(known.reason) < self.seconds:
+            known = self.found[key] = super().answer(text)
+            self.keep(key, known)
+        return known
+
+    def keep(self, key, answer):
+        """Appends an answer to the file, at once, since another run may do so, too."""
+        if self.kept and not self.ended:
+            line = json.dumps([key, answer.word, answer.reason, answer.certificate, round(answer.seconds, 3)]) + "\n"
+            with open(self.kept, "ab", buffering=0) as file:
+                file.write(line.encode())
+
+
 def differs(file, text, write):
     """Whether a stored file differs, which is shown; or it is written."""
     old = file.read_text(encoding="utf-8") if file.exists() else ""
@@ -200,39 +230,22 @@ def tried(file, options, runner):
 # what each step brings
 
 
-class Known:
-    """Answers that were found before, by the sum of the system's text, in a file."""
-
-    def __init__(self, file, runner):
-        self.file, self.runner, self.found = file, runner, {}
-        if file.exists():
-            self.found = dict(json.loads(line) for line in file.read_text(encoding="utf-8").splitlines())
-
-    def answer(self, text):
-        key = hashlib.sha256(text.encode()).hexdigest()
-        if key not in self.found:
-            self.found[key] = self.runner.answer(text).found
-            with open(self.file, "a", encoding="utf-8") as file:
-                file.write(json.dumps([key, self.found[key]]) + "\n")
-        return self.found[key]
-
-
-def measured(options, runner, known):
+def measured(options, runner):
     """How many functions of the programs are answered how, under these options of the translation."""
     systems = []
     for file in programs([]):
         translation = translated(file.read_text(encoding="utf-8"), file.stem, options)
         systems += [translation.part(it.symbol).text for it in translation.functions] if translation else []
     with concurrent.futures.ThreadPoolExecutor(runner.jobs) as pool:
-        return collections.Counter(pool.map(known.answer, systems))
+        return collections.Counter(it.found for it in pool.map(runner.answer, systems))
 
 
-def measure(runner, known):
+def measure(runner):
     """Prints a table with a row for each step that is added."""
     print("| translation | YES | NO | MAYBE |\n|---|---|---|---|")
     for count, title in enumerate(TITLES):
         options = fun.Options(**{step: at < count for at, step in enumerate(BEHIND)})
-        found = measured(options, runner, known)
+        found = measured(options, runner)
         print(f"| {title} | {found['YES']} | {found['NO']} | {found['MAYBE']} |", flush=True)
 
 
@@ -295,18 +308,17 @@ def read_words():
     parser.add_argument("--seed", metavar="S", type=int, default=0, help="the first seed of the random modules; 0 if not given")
     parser.add_argument("--jobs", metavar="N", type=int, default=os.cpu_count() or 1, help="how many searches at once")
     parser.add_argument("--seconds", metavar="S", type=float, default=300.0, help="how long a search may take; 300 if not given")
-    parser.add_argument("--known", metavar="FILE", type=pathlib.Path, help="where --measure keeps answers by the system's sum")
+    parser.add_argument("--known", metavar="FILE", type=pathlib.Path, help="where answers are kept, so that no system is asked twice")
     return parser.parse_args()
 
 
 def main():
     options = read_words()
     sys.setrecursionlimit(20_000)
-    with ask.Runner(ask.ready("wanda", "gen", "1"), options.seconds) as runner:
+    with Remembering(ask.ready("wanda", "gen", "1"), options.seconds, options.known) as runner:
         runner.jobs = options.jobs
         if options.measure:
-            with tempfile.TemporaryDirectory() as room:
-                measure(runner, Known(options.known or pathlib.Path(room, "known"), runner))
+            measure(runner)
             return 0
         wrong = fuzz(options.fuzz, options.seed, runner) if options.fuzz else compare(options, runner)
     return int(wrong > 0)

@@ -23,6 +23,15 @@ def refuse(at, sentence):
     raise Refused([Message(at[0], at[1], sentence)])
 
 
+class Uses:
+    """What a top-level declaration has to do with fixities: operators are ordered before it is known what they name."""
+
+    def __init__(self):
+        self.ordered = {}  # the operators whose fixity mattered, each with a place
+        self.bound = set()  # the names that are bound within the declaration
+        self.fixities = set()  # the operators whose fixities are declared within it
+
+
 class Parser:
     """A parser over one module's text."""
 
@@ -31,6 +40,7 @@ class Parser:
         self.messages = []
         self.fixities = dict(PRELUDE_FIXITIES)
         self.module_fixities = {}
+        self.uses, self.all_uses = Uses(), []
         self._read_fixities()
 
     # Tokens
@@ -94,6 +104,9 @@ class Parser:
                 name, i = f"`{tokens[i + 1].text}`", i + 3
             else:
                 name, i = tokens[i].text, i + 1
+            if self.module_fixities.get(name, fixity) != fixity:
+                self.complain(tokens[i - 1].at, f"`{name.strip('`')}` has two fixities in this module: give one of the operators "
+                              "another name")
             self.fixities[name] = fixity
             self.module_fixities[name] = fixity
             if tokens[i].text != ",":
@@ -114,6 +127,7 @@ class Parser:
         if not explicit and self.stream.raw().kind == "end":
             return result
         self.stream.block(lambda: self.guarded(result))
+        self.check_fixities()
         if self.stream.raw().kind != "end":
             self.messages.append(self.stray())
         if self.messages:
@@ -129,9 +143,29 @@ class Parser:
         token = self.stream.raw()
         return Message(*token.at, f"{token} can't stand here: no declaration begins with it in column {token.column}")
 
+    def check_fixities(self):
+        """Refuses an operator that was ordered by the fixity of another one of its name."""
+        within = set().union(*(uses.fixities for uses in self.all_uses))
+        for uses in self.all_uses:
+            for name, at in uses.ordered.items():
+                bare = name.strip("`")
+                if name not in uses.fixities and (name in within or bare in uses.bound):
+                    self.complain(at, f"`{bare}` has a fixity where it is defined elsewhere, which does not hold here: put "
+                                  "parentheses, or give one of the two another name")
+
+    def drop_fixities(self, one):
+        """After an import of the Prelude: what it leaves out and the module defines anew has no fixity from there."""
+        listed = {name for name, _ in one.names}
+        for name in PRELUDE_FIXITIES:
+            hidden = (name.strip("`") in listed) == one.hides and name != ":"
+            if hidden and name not in self.module_fixities:
+                self.fixities.pop(name, None)
+
     def guarded(self, result):
         """A top-level item; after an error the parse goes on where the next one begins."""
         columns, begin = list(self.stream.columns), self.stream.place
+        self.uses = Uses()
+        self.all_uses.append(self.uses)
         try:
             self.top(result)
             if not self.ended():
@@ -201,7 +235,7 @@ class Parser:
         elif self.at("type"):
             result.synonyms.append(self.synonym())
         else:
-            result.declarations.extend(self.declaration())
+            result.declarations.extend(self.declaration(set()))
 
     def import_(self):
         """An import."""
@@ -216,7 +250,10 @@ class Parser:
         names = self.import_names() if self.at("(") else None
         if name not in ("Prelude", "Nat"):
             refuse(at, f"`{name}` can't be imported: the modules that are known are Prelude and Nat; define what you need of it")
-        return s.Import(name, hides, names, at)
+        found = s.Import(name, hides, names, at)
+        if name == "Prelude" and names is not None:
+            self.drop_fixities(found)
+        return found
 
     def import_names(self):
         """The names in an import list; a type with (..) brings its constructors as `T(..)`."""
@@ -396,9 +433,9 @@ class Parser:
             return head
         if head.is_variable:
             refuse(head.at, f"the type variable `{head.head}` can't have arguments in the language")
-        if head.arguments:
+        if head.head in ("->", "[]") and head.arguments or head.head.startswith("("):
             refuse(arguments[0].at, "this type can't have arguments")
-        return s.Type(head.head, arguments, head.at)
+        return s.Type(head.head, head.arguments + arguments, head.at)
 
     def atype(self):
         """A name, a variable, a list, a tuple, or a type in parentheses."""
@@ -449,16 +486,21 @@ class Parser:
     def declarations(self):
         """The declarations of a block, with the clauses of a function gathered."""
         found = []
-        for some in self.stream.block(self.declaration):
+        for some in self.stream.block(lambda: self.declaration(self.uses.fixities)):
             found.extend(some)
+        self.uses.bound |= {one.name for one in found if isinstance(one, s.Function)}
         return self.gather(found)
 
-    def declaration(self):
-        """A signature, a fixity, a clause or a pattern binding: a list of at most one."""
+    def declaration(self, fixities):
+        """A signature, a fixity, a clause or a pattern binding: a list of at most one.
+
+        The operators of a fixity, which are known from before, come into `fixities`.
+        """
         token = self.peek()
         if self.at("infixl", "infixr", "infix"):
             while not self.ended():
-                self.take()
+                token = self.take()
+                fixities.update((token.text, f"`{token.text}`"))
             return []
         if self.signature_ahead():
             names = [self.named_variable()]
@@ -527,17 +569,34 @@ class Parser:
     def infix_clause(self):
         """An equation of an operator: `x op y = ..`."""
         at = self.peek().at
-        left = self.operator_pattern()
-        name = self.operator()
-        patterns = [left, self.operator_pattern()]
+        name, patterns = self.infix_left_side()
         return s.Function(name, [s.Clause(patterns, self.right("="), at)], at)
+
+    def infix_left_side(self):
+        """What is defined by `x op y`, with the two patterns. It is to bind less than the constructors' operators there."""
+        defined = []
+
+        def operator():
+            found = self.pattern_operator()
+            if not found and not defined:
+                found = self.expression_operator()
+                defined.append(found)
+            return found
+
+        def join(name, at, left, right):
+            if name == defined[0][0]:
+                return (left, right)
+            if isinstance(left, tuple) or isinstance(right, tuple):
+                refuse(at, f"`{defined[0][0].strip('`')}`, which is defined here, binds more than `{name}`: put parentheses")
+            return self.join_pattern(name, at, left, right)
+
+        patterns = self.chain(self.operator_pattern_part, operator, join)
+        return defined[0][0].strip("`"), list(patterns)
 
     def wrapped_clause(self):
         """An equation `(x op y) z .. = ..`."""
         at = self.take().at
-        left = self.operator_pattern()
-        name = self.operator()
-        patterns = [left, self.operator_pattern()]
+        name, patterns = self.infix_left_side()
         self.expect(")", "behind the operator's arguments")
         while not self.at("=", "|"):
             patterns.append(self.apattern())
@@ -642,10 +701,6 @@ class Parser:
         """A pattern, with constructor operators ordered by their fixities."""
         return self.chain(self.operator_pattern_part, self.pattern_operator, self.join_pattern)
 
-    def operator_pattern(self):
-        """An argument of an operator that is defined: constructors may have arguments there and operators."""
-        return self.pattern()
-
     def operator_pattern_part(self):
         """A constructor with arguments, or an argument pattern."""
         token = self.peek()
@@ -686,8 +741,9 @@ class Parser:
     def apattern(self):
         """A variable, `_`, a constructor, a numeral, a list, a tuple, `x@p`, or a pattern in parentheses."""
         token = self.peek()
-        if token.kind == "name":
+        if token.kind == "name" or self.operator_name_ahead():
             name = self.variable("a variable")
+            self.uses.bound.add(name)
             if self.accept("@"):
                 return s.PAs(name, self.apattern(), token.at)
             return s.PVar(name, token.at)
@@ -752,6 +808,11 @@ class Parser:
 
     # Expressions
 
+    def operator_name_ahead(self):
+        """Whether an operator that is no constructor stands here in parentheses."""
+        inner = self.peek(1)
+        return self.at("(") and inner.kind == "sign" and not inner.text.startswith(":") and self.peek(2).text == ")"
+
     def variable(self, what):
         """A variable's name, or an operator in parentheses."""
         token = self.peek()
@@ -798,10 +859,12 @@ class Parser:
             if not found:
                 break
             name, at = found
-            side, level = self.fixities.get(name, ("infixl", 9))
+            side, level = self.fixity(name)
             while waiting:
                 other, other_at = waiting[-1]
-                other_side, other_level = self.fixities.get(other, ("infixl", 9))
+                other_side, other_level = self.fixity(other)
+                self.uses.ordered.setdefault(other, other_at)
+                self.uses.ordered.setdefault(name, at)
                 if other_level == level and (side != other_side or side == "infix"):
                     refuse(at, f"`{name.strip('`')}` and `{other.strip('`')}` bind equally: put parentheses")
                 if other_level > level or other_level == level and side == "infixl":
@@ -819,6 +882,10 @@ class Parser:
             right, left = parts.pop(), parts.pop()
             parts.append(join(name, at, left, right))
         return parts[0]
+
+    def fixity(self, name):
+        """The side and the level of an operator."""
+        return self.fixities.get(name, ("infixl", 9))
 
     def section_ends(self):
         """Whether a parenthesis closes here, behind an operator."""
@@ -1002,16 +1069,15 @@ class Parser:
             return operator_node(name, at)
         if name == "-":
             refuse(at, NO_NUMBER)
-        side, level = self.fixities.get(name, ("infixl", 9))
-        right = self.operators_above(name, at, side, level)
+        right = self.operators_above(name, at)
         self.expect(")", "behind the section")
         body = s.App(s.App(operator_node(name, at), s.Var("x'", at), at), right, at)
         clause = s.Clause([s.PVar("x'", at)], s.Right([([], body)], [], at), at)
         return s.Lam(clause, token.at)
 
-    def operators_above(self, name, at, side, level):
+    def operators_above(self, name, at):
         """The operand of a right section, whose operators bind more than the section's."""
-        lowest = []
+        lowest, (side, level) = [], self.fixity(name)
 
         def operator():
             found = self.expression_operator()
@@ -1021,7 +1087,9 @@ class Parser:
 
         result = self.chain(self.prefix, operator, self.join)
         for other, other_at in lowest:
-            other_side, other_level = self.fixities.get(other, ("infixl", 9))
+            other_side, other_level = self.fixity(other)
+            self.uses.ordered.setdefault(name, at)
+            self.uses.ordered.setdefault(other, other_at)
             if other_level < level or other_level == level and not (side == other_side == "infixr"):
                 refuse(other_at, f"`{other.strip('`')}` binds less than the section's operator: put parentheses")
         return result

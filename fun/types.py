@@ -802,11 +802,12 @@ class Problem:
 
 @dataclass
 class Expansion:
-    """A type synonym."""
+    """A type synonym. The last `added` parameters are not written: its right side lacks these arguments."""
 
     name: str
     parameters: list
     type: object
+    added: int = 0
 
 
 def counted(number, what):
@@ -905,9 +906,25 @@ def expand_synonyms(checker, synonyms):
                 checker.complain(one.at, f"the type `{one.name}` stands for itself: declare it by `data`", once=False)
                 checker.scope.types[one.name] = Expansion(one.name, [Rigid(name) for name in one.parameters], Meta(0))
                 continue
-            variables = {name: Rigid(name) for name in one.parameters}
-            type_ = checker.type_of(one.type, variables)
-            declare_type(checker, one, Expansion(one.name, [variables[name] for name in one.parameters], type_))
+            added = missing_arguments(checker.scope, one.type)
+            variables = {name: Rigid(name) for name in [*one.parameters, *added]}
+            whole = s.Type(one.type.head, one.type.arguments + [s.Type(name, [], one.at) for name in added], one.type.at)
+            type_ = checker.type_of(whole, variables)
+            declare_type(checker, one, Expansion(one.name, list(variables.values()), type_, len(added)))
+
+
+def missing_arguments(scope, written_):
+    """Names for the arguments that the right side of a synonym lacks, as in `type Result = Either Error`.
+
+    A synonym on the right side is to have the arguments that it was declared with.
+    """
+    found = LIST if written_.head == "[]" else scope.types.get(written_.head)
+    if isinstance(found, Expansion):
+        most = found.added
+    else:
+        most = len(found.parameters) if isinstance(found, Data) else 0
+    missing = len(found.parameters) - len(written_.arguments) if most else 0
+    return [f"argument{at}" for at in range(missing)] if 0 < missing <= most else []
 
 
 def type_names(written_):

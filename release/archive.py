@@ -188,8 +188,7 @@ def make(top, folder, kit_name, kit, log):
     libraries = programs.libraries_for(found, kit / "toolchain" / "lib")
     tree, seconds = read_tree(top)
     entries = collect(top, found, libraries, tree)
-    inner = {path: entry.data for path, entry in entries.items() if path.startswith("libexec/")}
-    sums = {path: hashlib.sha256(data).hexdigest() for path, data in inner.items()}
+    sums = {path: hashlib.sha256(entry.data).hexdigest() for path, entry in entries.items() if not entry.target}
     gate = proved.read_gate(log) if log is not None else None
     entries[f"{DOCUMENTS}/PROVED"] = Entry(proved.text(tree, kit_name, gate, found, sums).encode())
     name = f"wanda-{tree.date}-x86_64-linux"

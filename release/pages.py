@@ -17,7 +17,7 @@ HERE = pathlib.Path(__file__).resolve().parent
 PICTURES = (".svg", ".png", ".jpg")
 OUTSIDE = re.compile(r"[a-z][a-z0-9+.-]*:")
 # what users read comes first; what is not named here comes behind it
-FIRST = ("README.md", "docs/TUTORIAL.md", "docs/GUIDE.md", "docs/REFERENCE.md", "docs/PROGRAMS.md", "docs/SCRIPTS.md")
+FIRST = ("README.md", "docs/TUTORIAL.md", "docs/REFERENCE.md", "docs/PROGRAMS.md")
 
 
 def sources_of(top):
@@ -29,7 +29,7 @@ def sources_of(top):
 
 
 def output_name(source):
-    """The file of a page: docs/GUIDE.md is GUIDE.html, README.md is index.html, and that of a folder has its name."""
+    """The file of a page: docs/TUTORIAL.md is TUTORIAL.html, README.md is index.html, and that of a folder has its name."""
     folder, name = os.path.split(source)
     if name != "README.md":
         return name[: -len(".md")] + ".html"

@@ -13,16 +13,17 @@ How to prove it anew, which takes the kit and about an hour (bench/COSTS.md), at
 
     git checkout {commit}
     rt version                       # prints: {kit}
-    rt ci --anew > gate.log          # proves all crates, and tries the edits that must be refused
-    ./wanda-build PROGRAM            # for each program below: wanda, explain, ..
-    sha256sum crates/*/out/wanda*    # the sums of the programs below
+    rt ci --anew > gate.log          # proves all crates, tries the edits that must be refused, and builds the programs
+    sha256sum crates/*/out/wanda*    # the sums of libexec/wanda/programs below
     ./wanda-release DIR --gate gate.log
 
 The last command makes this archive again, byte for byte where the log is the same. The sums at the end of this file are
-checked by `sha256sum -c`: those of the programs where the archive was unpacked, those of the sources in the clone.
+checked by `sha256sum -c`: those of the archive's files where it was unpacked, those of the sources in the clone.
 
-    grep ' libexec/' PROVED | sha256sum -c
-    grep -v ' libexec/' PROVED | sha256sum -c --quiet 2> /dev/null
+    grep -E '  (README$|bin/|libexec/|share/)' PROVED | sha256sum -c --quiet
+    grep -vE '  (README$|bin/|libexec/|share/)' PROVED | sha256sum -c --quiet 2> /dev/null
+
+What is proved is the programs. The scripts in bin/ and libexec/ are trusted, and are files of the same commit.
 """
 
 
@@ -90,7 +91,7 @@ def told_program(program):
 
 
 def text(tree, kit, gate, programs, sums):
-    """The file; `sums` has the sums of what lies in libexec/, by path."""
+    """The file; `sums` has the sums of the archive's other files, by path."""
     lines = [first_line(tree, gate, programs), "", "commit", f"  {tree.commit}"]
     if tree.is_changed:
         lines.append("  with changes that are in no commit: the sums below are of the files as they were")
@@ -99,5 +100,5 @@ def text(tree, kit, gate, programs, sums):
     sums = [f"{value}  {path}" for path, value in sorted(sums.items())]
     sources = [f"{value}  {path}" for path, value in sorted(tree.sums.items())]
     how = HOW.format(commit=tree.commit, kit=kit)
-    parts = ["\n".join(lines), how.rstrip(), "Sums of the programs:", "\n".join(sums)]
+    parts = ["\n".join(lines), how.rstrip(), "Sums of the files in this archive:", "\n".join(sums)]
     return "\n\n".join([*parts, "Sums of the sources:", "\n".join(sources)]) + "\n"

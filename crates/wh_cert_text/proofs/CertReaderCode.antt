@@ -7,6 +7,7 @@ use Rattle.std.proofs.lemmas.List.{length-append, take-append-le, take-append-dr
 use Rattle.wh_types.specs.declared.want.Or.{Or}
 use Rattle.wh_types.specs.declared.want.Or.TheVariants.{NoMemory, Because}
 use Rattle.wh_types.specs.Outcome.{IfBecause}
+use Rattle.wh_text.specs.declared.raw.RawType.{RawType}
 use Rattle.wh_cert.specs.Written.{Cert, yes, no}
 use Rattle.wh_cert.specs.Items as items
 use Rattle.wh_cert.specs.Items.{yes_head}
@@ -18,10 +19,9 @@ use Rattle.wh_cert_text.specs.ReadEnd.{IsEnd}
 use Rattle.wh_cert_machines.specs.LineMachine as m
 use Rattle.wh_cert_machines.specs.LineMachine.{Standing, unread, stands, stands_yes, wrong, standing_after, standing_after_yes, run, start, take_byte}
 use Rattle.wh_cert_machines.specs.YesMachine as y
-use Rattle.wh_cert_machines.specs.LineViews.{line_place, place_of as no_place_of}
+use Rattle.wh_cert_machines.specs.LineViews.{line_place, place_of as no_place_of, putting}
 use Rattle.wh_cert_machines.specs.YesViews.{yes_place, place_of, naming}
-use Rattle.wh_cert_text.specs.ReadViews.{wanted}
-use Rattle.wh_cert_text.specs.Handing.{TakesNo, TakesYes, handed_no, handed_yes, handed}
+use Rattle.wh_cert_text.specs.Handing.{TakesNo, TakesYes, handed_no, handed_yes, handed, wanted}
 use Rattle.wh_cert_text.specs.Feeding.{OnWant, ranks_of, IsPairsLine, Tracks, TracksYes, StopsAt, Stand, StandsFor, Refuses, Led, StageKept, HeadKnown, yes_ended, no_ended, has_ended}
 use Rattle.wh_cert_text.specs.ItemsRead.{ItemsIn}
 use Rattle.wh_cert_letters.specs.declared.letters.Letters.{Letters}
@@ -41,7 +41,6 @@ use Rattle.wh_cert_text.proofs.YesSound.{first, second, third, stage, LineNext, 
 use Rattle.wh_cert_text.proofs.YesReached.{end_found}
 use Rattle.wh_cert_text.proofs.Reached.{Good, reached_at, reached_yes}
 use Rattle.wh_cert_text.proofs.Whole.{Stops, goes_begins, begins_goes, stopped_at, ended_early, text_run, text_found}
-use Rattle.wh_cert_text.proofs.ReadCode.{place_finished}
 use Rattle.wh_cert_text.proofs.ItemsWhole.{item_next, all_items}
 
 pub is_wrong : (s : Standing) → Stops s → s ≡ wrong
@@ -67,11 +66,6 @@ no_goes h l (m.on q) (Some i) t = absurd t
 no_goes h l (m.gives i q) None t = absurd t
 no_goes h l (m.gives i q) (Some out) t = ((m.gather h i, ap (stands (m.gather h i)) (sym t.0)), ap Some t.1)
 no_goes h l m.refused out t = absurd t
-
-pub no_stops : (h : m.Past) (l : NoLine) (s : m.LineStep) → TakesNo l s Wrong → standing_after h s ≡ wrong
-no_stops h l (m.on q) t = absurd t
-no_stops h l (m.gives i q) t = absurd t
-no_stops h l m.refused t = refl
 
 -- one byte of a YES certificate
 
@@ -363,8 +357,24 @@ no_place_ended : (k : LinePlace) (l : NoLine) → no_ended k ≡ true → no_pla
 no_place_ended no_place.Finished l e = refl
 no_place_ended k l e = absurd cc
 
-not_no_ended : (k : LinePlace) → no_ended k ≡ false → k ≡ no_place.Finished → ⊥
-not_no_ended k e f = (let both = sym e ∙ ap no_ended f in absurd cc)
+nowhere_near : (o : Option RawType) (n : ℕ) (l : NoLine) → putting n o l ≡ m.finished → ⊥
+nowhere_near None n l e = absurd cc
+nowhere_near (Some a) n l e = absurd cc
+
+no_ended_place : (k : LinePlace) (l : NoLine) → no_ended k ≡ false → no_place_of k l ≡ m.finished → ⊥
+no_ended_place (no_place.Word o i) l e f = absurd cc
+no_ended_place no_place.Term l e f = absurd cc
+no_ended_place no_place.Line l e f = absurd cc
+no_ended_place no_place.Rule l e f = absurd cc
+no_ended_place (no_place.RuleNumber n) l e f = absurd cc
+no_ended_place (no_place.StepPath rule) l e f = absurd cc
+no_ended_place no_place.AtPath l e f = absurd cc
+no_ended_place no_place.LaterLine l e f = absurd cc
+no_ended_place no_place.PutVariable l e f = absurd cc
+no_ended_place (no_place.PutNumber n) l e f = absurd cc
+no_ended_place (no_place.PutType n) l e f = absurd cc
+no_ended_place (no_place.PutTerm n) l e f = nowhere_near l.kind n l f
+no_ended_place no_place.Finished l e f = absurd cc
 
 placed_behind : (n : ℕ) (h : m.Past) (f : List ℕ → List ℕ) → Good n h m.finished f → (c : Cert) × IsEnd (stands h m.finished) c
 placed_behind n m.nothing f g = (let both = g.staged in absurd cc)
@@ -432,7 +442,7 @@ finish_fault (Yes l) n p ended h short =
     early_said p n (stands_yes t.0 (yes_place l.value.line)) short h.0 t.4 (λ e. absurd cc) (λ c e. yes_early t.0 (yes_place l.value.line) c (ended_place l.value.line.place l.value.line ended) e)
 finish_fault (No l) n p ended h short =
     let t : Tracks (No l) (run start p) = h.1 in
-    early_said p n (stands t.0 (line_place l.value)) short h.0 t.1 (λ e. absurd cc) (λ c e. stands_early t.0 (line_place l.value) c (place_finished l.value.place l.value (not_no_ended l.value.place ended)) e)
+    early_said p n (stands t.0 (line_place l.value)) short h.0 t.1 (λ e. absurd cc) (λ c e. stands_early t.0 (line_place l.value) c (no_ended_place l.value.place l.value ended) e)
 finish_fault Refused n p ended h short = fault_of p n short h
 finish_fault Lost n p ended h short = lost_fault p n h
 

@@ -12,8 +12,8 @@ pub mod LineEnds
 pub mod Whole
 pub mod TextOrFault
 pub mod TextLengths
-pub mod ReadCode
 pub mod ItemsHanded
 pub mod ItemsWhole
 pub mod CertReaderCode
 pub mod PortionCode
+pub mod ReadingCode

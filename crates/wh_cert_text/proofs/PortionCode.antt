@@ -17,8 +17,7 @@ use Rattle.wh_cert_machines.specs.LineMachine.{Standing, unread, stands, stands_
 use Rattle.wh_cert_machines.specs.YesMachine as y
 use Rattle.wh_cert_machines.specs.LineViews.{line_place}
 use Rattle.wh_cert_machines.specs.YesViews.{yes_place}
-use Rattle.wh_cert_text.specs.ReadViews.{wanted}
-use Rattle.wh_cert_text.specs.Handing.{GivesYes, TakesYes, handed, handed_no, no_item}
+use Rattle.wh_cert_text.specs.Handing.{GivesYes, TakesYes, handed, handed_no, no_item, wanted}
 use Rattle.wh_cert_text.specs.Feeding.{Led, Stand, StandsFor, StopsAt, Tracks, TracksNo, TracksYes}
 use Rattle.wh_cert_text.specs.Portions.{Adds, HasFed, HasRun, RefusesSome}
 use Rattle.wh_cert_machines.specs.declared.line_reader.NoLine.{NoLine}

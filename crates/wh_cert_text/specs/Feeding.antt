@@ -14,8 +14,7 @@ use Rattle.wh_cert_machines.specs.LineMachine.{Standing, unread, stands, stands_
 use Rattle.wh_cert_machines.specs.YesMachine as y
 use Rattle.wh_cert_machines.specs.LineViews.{line_place}
 use Rattle.wh_cert_machines.specs.YesViews.{yes_place}
-use Rattle.wh_cert_text.specs.ReadViews.{wanted}
-use Rattle.wh_cert_text.specs.Handing.{handed}
+use Rattle.wh_cert_text.specs.Handing.{handed, wanted}
 use Rattle.wh_cert_machines.specs.declared.line_reader.LinePlace.{LinePlace}
 use Rattle.wh_cert_machines.specs.declared.line_reader.LinePlace.TheVariants as no_place
 use Rattle.wh_cert_machines.specs.declared.yes_line.YesPlace.{YesPlace}

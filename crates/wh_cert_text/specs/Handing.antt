@@ -7,12 +7,15 @@ use Rattle.wh_cert_machines.specs.YesMachine as y
 use Rattle.wh_cert_machines.specs.LineMachine as m
 use Rattle.wh_cert_machines.specs.LineViews.{item_of, line_place}
 use Rattle.wh_cert_machines.specs.YesViews.{yes_place}
-use Rattle.wh_cert_text.specs.ReadViews.{wanted}
 use Rattle.wh_cert_machines.specs.declared.line_reader.Item as line
 use Rattle.wh_cert_machines.specs.declared.line_reader.NoLine.{NoLine}
 use Rattle.wh_cert_text.specs.declared.items_out.Taken.{Taken}
 use Rattle.wh_cert_text.specs.declared.items_out.Taken.TheVariants.{On, Wrong}
 use Rattle.wh_cert_machines.specs.declared.progress.YesItems.{YesItems}
+
+-- how many nodes are wanted
+abbrev pub wanted : y.Past → ℕ
+wanted (y.so_far version ranks pairs nodes k) = k
 
 -- the item of a line of a NO certificate
 abbrev pub no_item : m.Item → Item

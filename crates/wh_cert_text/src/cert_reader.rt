@@ -13,7 +13,7 @@ ghost use Rattle.wh_cert_machines.specs.LineMachine.{run, stands, stands_yes, st
 ghost use Rattle.wh_cert_machines.specs.YesMachine as y;
 ghost use Rattle.wh_cert_machines.specs.LineViews.{line_place};
 ghost use Rattle.wh_cert_machines.specs.YesViews.{yes_place};
-ghost use Rattle.wh_cert_text.specs.ReadViews.{wanted as wanted_of};
+ghost use Rattle.wh_cert_text.specs.Handing.{wanted as wanted_of};
 ghost use Rattle.wh_cert_text.specs.ItemsRead.{ItemsIn};
 ghost use Rattle.wh_cert_text.specs.Portions.{HasFed, HasRun, IsPortionOf, IsWithin, RefusesSome};
 ghost use Rattle.wh_cert_text.specs.Feeding.{Tracks, TracksNo, TracksYes, HeadKnown, Led, OnWant, Refuses, StandsFor, has_ended};

@@ -2,18 +2,17 @@
 
 ghost use Rattle.std.specs.Prelude.{◌≡◌, ◌+◌, ◌<◌, ◌^◌, ℕ, List, length, IfOk, OnErr, MatchOption};
 ghost use Rattle.wh_cert.specs.Said.{said_node};
+ghost use Rattle.wh_cert.specs.Written.{children as children_of};
 ghost use Rattle.wh_cert_machines.specs.LineMachine.{line_step, run, start};
 ghost use Rattle.wh_cert_text.specs.Feeding.{TracksNo, TracksYes};
 ghost use Rattle.wh_cert_text.specs.Portions.{HasRun, IsWithin};
 ghost use Rattle.wh_cert_machines.specs.YesMachine as y;
 ghost use Rattle.wh_cert_machines.specs.LineViews.{line_place};
 ghost use Rattle.wh_cert_machines.specs.YesViews.{item_of as yes_item, yes_place};
-ghost use Rattle.wh_cert_text.specs.ReadViews.{wanted as wanted_of};
-ghost use Rattle.wh_cert_text.specs.Handing.{Begun, GivesNo, GivesYes, TakesNo, TakesYes};
+ghost use Rattle.wh_cert_text.specs.Handing.{Begun, GivesNo, GivesYes, TakesNo, TakesYes, wanted as wanted_of};
 ghost use Rattle.wh_cert_machines.specs.declared.line_reader.LinePlace.TheVariants as no_place;
 ghost use Rattle.wh_cert_machines.specs.declared.yes_line.YesPlace.TheVariants as place;
 
-use crate::read::children;
 use std::alloc::{AllocError, Global};
 use std::mem;
 use wh_cert::{Item, Node};
@@ -134,6 +133,17 @@ fn wanted_behind(node: &Node, wanted: u64) -> Option<u64>
         → wanted_of (y.gather h (y.node_item (said_node node.now))) ≡ n) }
 {
     children(node).checked_add(wanted.saturating_sub(1))
+}
+
+/// For how many sets a node leaves the same to be shown.
+fn children(node: &Node) -> u64
+    ensures { result ≡ children_of (said_node node.now) }
+{
+    match node {
+        Node::Done | Node::Alone => 0,
+        Node::Blocks(parts) => parts.as_slice().len() as u64,
+        Node::Subterm { .. } | Node::Poly(_) | Node::Order(_) => 1,
+    }
 }
 
 /// Where the next byte of a NO certificate leads. No memory is needed where all was read.

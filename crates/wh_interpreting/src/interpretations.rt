@@ -1,7 +1,7 @@
 //! The search for interpretations that let a pair of a set go, by all its means in turn: `interpretation_of` climbs,
 //! asks formulas for flat sets where the climb finds none, and then starts the wider search.
 
-ghost use Rattle.std.specs.Prelude.{◌<◌, ◌≤◌, All, IfOk, IfSome, IsTrue, None, Some, length};
+ghost use Rattle.std.specs.Prelude.{◌≡◌, false, ◌+◌, ◌*◌, ◌<◌, ◌≤◌, ◌↔◌, All, IfOk, IfSome, IsTrue, MatchOption, None, length};
 ghost use Rattle.wh_types.specs.Limits.{most_pairs};
 ghost use Rattle.wh_pairs.specs.SystemPairs.{HasPairs};
 ghost use Rattle.wh_pairs.specs.Views.{pairs_data};
@@ -10,7 +10,10 @@ ghost use Rattle.wh_cert.specs.Said.{said_node};
 ghost use Rattle.wh_proof.specs.Looked.{poly_task};
 ghost use Rattle.wh_poly_guesses.specs.Found.{IsInterpretation};
 ghost use Rattle.wh_poly_flat.specs.Flat.{IsFlat};
-ghost use Rattle.wh_interpreting.specs.Interpreted.{Interprets, IsFlatList, IsInterpreted};
+ghost use Rattle.wh_reduction_pairs.specs.TaskData.{whole_task};
+ghost use Rattle.wh_usable_rules.specs.Least.{IsLeastClosed};
+ghost use Rattle.wh_interpreting.specs.Interpreted.{Interprets, IsInterpreted};
+ghost use Rattle.wh_interpreting.specs.Lists.{IsAsked, IsListFor, ListsEnd, most_covered};
 
 use std::alloc::{AllocError, Global};
 use wh_cert::Node;
@@ -34,9 +37,11 @@ const EVALUATIONS: u64 = 30_000;
 // The formula over the usable rules is made where these and the pairs of the set are at most this number together.
 const MOST_COVERED: usize = 40;
 
-// The search by the formula over the usable rules is given up with this number of learnt clauses: most sets of programs
-// need fewer than a hundred, and the wider search goes on.
+// The search by the formula over the usable rules is given up with this number of learnt clauses, or with a tenth of the
+// whole budget where that is more: most sets of programs need fewer than a hundred, and the wider search goes on.
 const MOST_LEARNT: u64 = 1_000;
+
+const SHARE: u64 = 10;
 
 /// Interpretations under which no rule that is to be covered and no pair of the set grows and some pair shrinks.
 ///
@@ -44,7 +49,11 @@ const MOST_LEARNT: u64 = 1_000;
 /// and it is flat with them, a formula over these rules comes first; a node that is found by it lists them. A flat set
 /// of a system with few symbols is then put into one formula over all rules, which settles it or is given up with
 /// `budget` learnt clauses. A set that is left open, and any other one, goes through `find_interpretation` with the
-/// same budget, from which alone `Spent` comes.
+/// same budget.
+///
+/// `Nothing` comes only where no interpretation lets a pair go that covers all rules, and `Spent` only with `budget`
+/// clauses of the wider search. Both say what became of the usable rules: there was no formula over them, and why; it
+/// has no model; or it was given up, with a number of clauses that grows with `budget`.
 #[tactic(auto, using(crate::proofs::InterpretedLemmas::without_list, crate::proofs::InterpretedLemmas::found_by_formula, crate::proofs::InterpretedLemmas::none_by_formula, crate::proofs::InterpretedLemmas::by_search_if))]
 pub fn interpretation_of(
     alloc: Global,
@@ -80,7 +89,6 @@ pub fn interpretation_of(
 }
 
 // The usable rules of the set, where they are not all rules, but few, and the set is flat with them.
-#[tactic(auto, using(crate::proofs::InterpretedLemmas::closed_list, crate::proofs::InterpretedLemmas::flat_list))]
 fn flat_list(
     alloc: Global,
     system: &System,
@@ -88,12 +96,31 @@ fn flat_list(
     set: &PairSet,
 ) -> Result<Option<Numbers>, AllocError>
     requires set { All (λ n. n < length pairs.now) set.now }
-    ensures { IfOk result (IsFlatList (system_data system.now) (pairs_data pairs.now) set.now) }
+    ensures { IfOk result (IsListFor (system_data system.now) (pairs_data pairs.now) set.now) }
 {
-    let usable = usable_rules(alloc, system, pairs, set)?;
-    if !is_short(&usable, set) {
+    match usable_rules(alloc, system, pairs, set)? {
+        Some(listed) => flat_with(alloc, system, pairs, set, listed),
+        None => Ok(None),
+    }
+}
+
+// This least list, where it is short and the set is flat with it.
+fn flat_with(
+    alloc: Global,
+    system: &System,
+    pairs: &PairList,
+    set: &PairSet,
+    listed: Numbers,
+) -> Result<Option<Numbers>, AllocError>
+    requires set { All (λ n. n < length pairs.now) set.now }
+    requires least { IsLeastClosed (whole_task (system_data system.now).symbols (system_data system.now).rules
+        (pairs_data pairs.now) set.now) listed }
+    ensures { IfOk result (IsListFor (system_data system.now) (pairs_data pairs.now) set.now) }
+{
+    if !is_short(listed.as_slice(), set.as_slice()) {
         return Ok(None);
     }
+    let usable = Some(listed);
     if is_flat(alloc, system, pairs, set, &usable)? {
         Ok(usable)
     } else {
@@ -101,15 +128,11 @@ fn flat_list(
     }
 }
 
-// Whether there is a list, and few rules and pairs are to be covered.
-fn is_short(usable: &Option<Numbers>, set: &PairSet) -> bool {
-    match usable {
-        Some(listed) => {
-            let rules = listed.as_slice().len();
-            rules.saturating_add(set.as_slice().len()) <= MOST_COVERED
-        }
-        None => false,
-    }
+// Whether few rules and pairs are to be covered.
+fn is_short(listed: &[u32], set: &[u32]) -> bool
+    ensures { result ≡ false → most_covered < length listed.now + length set.now }
+{
+    listed.len() <= MOST_COVERED && set.len() <= MOST_COVERED - listed.len()
 }
 
 // Whether the formula over all rules is made: the set is flat with them, and the system has few symbols.
@@ -142,9 +165,9 @@ fn by_usable_rules(
     requires whole { HasPairs (system_data system.now) (pairs_data pairs.now) }
     requires set { All (λ n. n < length pairs.now) set.now }
     requires some { 1 ≤ length set.now }
-    requires usable { IsFlatList (system_data system.now) (pairs_data pairs.now) set.now usable }
-    ensures { IfOk result (λ found. IfSome found (λ node. Interprets (system_data system.now) (pairs_data pairs.now) set.now
-        (said_node node))) }
+    requires usable { IsListFor (system_data system.now) (pairs_data pairs.now) set.now usable }
+    ensures { IfOk result (λ found. MatchOption found (ListsEnd (system_data system.now) (pairs_data pairs.now) set.now budget)
+        (λ node. Interprets (system_data system.now) (pairs_data pairs.now) set.now (said_node node))) }
 {
     match usable {
         Some(listed) => by_list(alloc, system, pairs, set, listed, budget),
@@ -153,7 +176,6 @@ fn by_usable_rules(
 }
 
 // A node that lists these rules, where the formula over them gives one.
-#[tactic(auto, using(crate::proofs::InterpretedLemmas::with_list))]
 fn by_list(
     alloc: Global,
     system: &System,
@@ -166,14 +188,28 @@ fn by_list(
     requires whole { HasPairs (system_data system.now) (pairs_data pairs.now) }
     requires set { All (λ n. n < length pairs.now) set.now }
     requires some { 1 ≤ length set.now }
-    requires listed { IsFlatList (system_data system.now) (pairs_data pairs.now) set.now (Some listed) }
-    ensures { IfOk result (λ found. IfSome found (λ node. Interprets (system_data system.now) (pairs_data pairs.now) set.now
-        (said_node node))) }
+    requires listed { IsAsked (system_data system.now) (pairs_data pairs.now) set.now listed }
+    ensures { IfOk result (λ found. MatchOption found (ListsEnd (system_data system.now) (pairs_data pairs.now) set.now budget)
+        (λ node. Interprets (system_data system.now) (pairs_data pairs.now) set.now (said_node node))) }
 {
-    let most = budget.min(MOST_LEARNT);
+    let most = most_learnt(budget);
     match find_by_circuit(alloc, system, pairs, set, Some(listed), most)? {
         Search::Found(node) => Ok(Some(node)),
-        Search::Nothing | Search::Spent(_) => Ok(None),
+        Search::Nothing => Ok(None),
+        Search::Spent(_learnt) => Ok(None),
+    }
+}
+
+// How many clauses the search over the usable rules may learn.
+fn most_learnt(budget: u64) -> u64
+    ensures less { result ≤ budget }
+    ensures share { budget < 10 * (result + 1) }
+{
+    let share = budget / SHARE;
+    if share > MOST_LEARNT {
+        share
+    } else {
+        budget.min(MOST_LEARNT)
     }
 }
 

@@ -102,11 +102,28 @@ proof_of_tree d ps ranks count set lines c made pairs passing each low right who
 pub no_proof_of_end : (d : SystemData) (ps : List PairData) (tries : ℕ) (cause : Cause) → HasRanks d → IsEnd d ps tries cause → HasNoProof d ps tries cause
 no_proof_of_end d ps tries (NoRanks cause) ranks end = absurd end
 no_proof_of_end d ps tries (Stuck set) ranks end =
-    record { ranks = ranks; searched = end.0; ended = end.1; no_projection = end.2; no_interpretation = end.3; no_order = end.4 }
+    record {
+      ranks = ranks;
+      searched = end.0;
+      ended = end.1;
+      no_projection = end.2;
+      no_interpretation = end.3.over_all;
+      lists = end.3.lists;
+      no_order = end.4;
+    }
 no_proof_of_end d ps tries (Spent Subterm set list) ranks end = record { ranks = ranks; ended = end.0; spent = end.1 }
-no_proof_of_end d ps tries (Spent Poly set list) ranks end = record { ranks = ranks; searched = end.0; ended = end.1; no_projection = end.2; spent = end.3 }
+no_proof_of_end d ps tries (Spent Poly set list) ranks end =
+    record { ranks = ranks; searched = end.0; ended = end.1; no_projection = end.2; spent = end.3.over_all; lists = end.3.lists }
 no_proof_of_end d ps tries (Spent Order set list) ranks end =
-    record { ranks = ranks; searched = end.0; ended = end.1; no_projection = end.2; no_interpretation = end.3; spent = end.4 }
+    record {
+      ranks = ranks;
+      searched = end.0;
+      ended = end.1;
+      no_projection = end.2;
+      no_interpretation = end.3.over_all;
+      lists = end.3.lists;
+      spent = end.4;
+    }
 no_proof_of_end d ps tries (Full visits) ranks end = absurd end
 
 -- where there are no loops, that is the reason

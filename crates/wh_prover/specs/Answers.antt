@@ -12,6 +12,7 @@ use Rattle.wh_find_subterm.specs.Found.{IsSpent}
 use Rattle.wh_poly_guesses.specs.Conditions.{HasNoInterpretation}
 use Rattle.wh_poly_guesses.specs.Found.{task_of}
 use Rattle.wh_poly_blocking.specs.Answers as tried
+use Rattle.wh_interpreting.specs.Lists.{ListsEnd}
 use Rattle.wh_order_space.specs.Space.{HasNoOrder}
 use Rattle.wh_find_order.specs.Answers as ordered
 use Rattle.wh_loop_starts.specs.Space.{HasNoLoop}
@@ -52,14 +53,16 @@ pub record IsProof (d : SystemData) (ps : List PairData) (c : Cert) : Type 0 whe
 abbrev pub HasRanks : SystemData → Type 0
 HasRanks d = (ranks : List ℕ) × (length ranks ≡ d.symbols.sorts) × IsPassing d ranks
 
--- no projection, no interpretation and no path order of the spaces lets a pair go of a knot that the search comes to,
--- under some ranks; so clauses may be learnt at all (ours)
+-- no projection, no interpretation that covers all rules and no path order of the spaces lets a pair go of a knot that
+-- the search comes to, under some ranks; so clauses may be learnt at all; and this became of the search for
+-- interpretations that cover the least closed list (ours)
 pub record IsStuck (d : SystemData) (ps : List PairData) (tries : ℕ) (set : List ℕ) : Type 0 where
   pub ranks : HasRanks d
   pub searched : 0 < tries
   pub ended : Ended d ps set
   pub no_projection : HasNoProjection d.rules ps set
   pub no_interpretation : HasNoInterpretation (task_of d ps set)
+  pub lists : ListsEnd d ps set tries
   pub no_order : HasNoOrder (task_of d ps set)
 
 -- the search for a projection of a knot that the search comes to learnt as many clauses as it may, which are shown
@@ -69,23 +72,26 @@ pub record IsSpentOn (d : SystemData) (ps : List PairData) (tries : ℕ) (set : 
   pub ended : Ended d ps set
   pub spent : IsSpent d.rules ps set tries list
 
--- no projection lets a pair go of a knot that the search comes to, and the search for interpretations made as many
--- clauses as it may, which are shown (ours)
+-- no projection lets a pair go of a knot that the search comes to, the search for interpretations that cover all rules
+-- made as many clauses as it may, which are shown, and this became of the one that covers the least closed list (ours)
 pub record IsTriedOn (d : SystemData) (ps : List PairData) (tries : ℕ) (set : List ℕ) (list : List (List Literal)) : Type 0 where
   pub ranks : HasRanks d
   pub searched : 0 < tries
   pub ended : Ended d ps set
   pub no_projection : HasNoProjection d.rules ps set
   pub spent : tried.IsSpent d ps set tries list
+  pub lists : ListsEnd d ps set tries
 
--- no projection and no interpretation lets a pair go of a knot that the search comes to, and the search for path orders
--- made as many clauses as it may, which are shown (ours)
+-- no projection and no interpretation that covers all rules lets a pair go of a knot that the search comes to, the
+-- search for path orders made as many clauses as it may, which are shown, and this became of the search for
+-- interpretations that cover the least closed list (ours)
 pub record AreOrdersTriedOn (d : SystemData) (ps : List PairData) (tries : ℕ) (set : List ℕ) (list : List (List Literal)) : Type 0 where
   pub ranks : HasRanks d
   pub searched : 0 < tries
   pub ended : Ended d ps set
   pub no_projection : HasNoProjection d.rules ps set
   pub no_interpretation : HasNoInterpretation (task_of d ps set)
+  pub lists : ListsEnd d ps set tries
   pub spent : ordered.IsSpent d ps set tries list
 
 -- why there is no proof of termination: there are no ranks; nothing lets a pair of a set go; or a search for what does

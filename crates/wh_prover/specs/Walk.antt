@@ -12,9 +12,8 @@ use Rattle.wh_cert.specs.Limits.{ArgFits, NodeFits, NodeWithin}
 use Rattle.wh_cert.specs.Said.{said_node}
 use Rattle.wh_cert.specs.declared.certificate.Node.{Node}
 use Rattle.wh_find_subterm.specs.Found.{IsSpent}
-use Rattle.wh_poly_guesses.specs.Conditions.{HasNoInterpretation}
 use Rattle.wh_poly_guesses.specs.Found.{task_of}
-use Rattle.wh_poly_blocking.specs.Answers as tried
+use Rattle.wh_interpreting.specs.Interpreted.{HasNone, IsOpen}
 use Rattle.wh_order_space.specs.Space.{HasNoOrder}
 use Rattle.wh_find_order.specs.Answers as ordered
 use Rattle.wh_subterm.specs.Projections.{Chosen}
@@ -39,12 +38,12 @@ weight (set ∷ sets) = weigh set + weight sets
 -- why the walk ended on a set (ours)
 abbrev pub IsEnd : SystemData → List PairData → ℕ → Cause → Type 0
 IsEnd d ps tries (NoRanks cause) = ⊥
-IsEnd d ps tries (Stuck set) = (0 < tries) × Ended d ps set × HasNoProjection d.rules ps set × HasNoInterpretation (task_of d ps set)
+IsEnd d ps tries (Stuck set) = (0 < tries) × Ended d ps set × HasNoProjection d.rules ps set × HasNone d ps set tries
     × HasNoOrder (task_of d ps set)
 IsEnd d ps tries (Spent Subterm set list) = Ended d ps set × IsSpent d.rules ps set tries list
-IsEnd d ps tries (Spent Poly set list) = (0 < tries) × Ended d ps set × HasNoProjection d.rules ps set × tried.IsSpent d ps set tries list
+IsEnd d ps tries (Spent Poly set list) = (0 < tries) × Ended d ps set × HasNoProjection d.rules ps set × IsOpen d ps set tries list
 IsEnd d ps tries (Spent Order set list) = (0 < tries) × Ended d ps set × HasNoProjection d.rules ps set
-    × HasNoInterpretation (task_of d ps set) × ordered.IsSpent d ps set tries list
+    × HasNone d ps set tries × ordered.IsSpent d ps set tries list
 IsEnd d ps tries (Full visits) = ⊥
 
 -- the lines of a node are for these choices and this drop list, and fit (ours)

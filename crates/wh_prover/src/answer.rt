@@ -33,9 +33,12 @@ pub enum Answer {
 pub enum Cause {
     /// The system is passing under no ranks.
     NoRanks(NoRanks),
-    /// The search came to this set, of which the graph settles nothing, and no projection, no interpretation and no
-    /// path order of the spaces lets a pair go. There is no loop of at most `depth` steps in the space, and fewer terms
-    /// are reached than may be kept.
+    /// The search came to this set, of which the graph settles nothing, and no projection, no interpretation that covers
+    /// all rules and no path order of the spaces lets a pair go. Interpretations that cover a shorter list were looked
+    /// for over the least closed list alone: there was no such list, or it is longer than 40 less the pairs of the set,
+    /// or the set is not flat with it; none of the space lets a pair go; or that search was given up with a number of
+    /// clauses that grows with `tries`, so that more of them can help. There is no loop of at most `depth` steps in the
+    /// space, and fewer terms are reached than may be kept.
     Stuck(PairSet),
     /// A finder ended on a set without an answer.
     Spent {
@@ -46,8 +49,7 @@ pub enum Cause {
         /// The clauses that the finder made, as many as it may.
         list: Clauses,
     },
-    /// No projection, no interpretation and no path order lets a pair of some set go, and the search for loops kept as
-    /// many terms as it may, which are shown.
+    /// As `Stuck` for some set, but the search for loops kept as many terms as it may, which are shown.
     Full(Visits),
 }
 

@@ -8,8 +8,7 @@ ghost use Rattle.wh_system.specs.SystemView.{system_data};
 ghost use Rattle.wh_cert.specs.Said.{said_node};
 ghost use Rattle.wh_graph.specs.Graphs.{IsGraphOf, edge_of, size_of};
 ghost use Rattle.wh_intern_pairs.specs.Numberings.{IsNumberingSoFar};
-ghost use Rattle.wh_poly_guesses.specs.Conditions.{HasNoInterpretation};
-ghost use Rattle.wh_poly_guesses.specs.Found.{task_of};
+ghost use Rattle.wh_interpreting.specs.Interpreted.{HasNone};
 ghost use Rattle.wh_prover.specs.Arriving.{Arrives, Ended, HasNoProjection, IsAloneUnder};
 ghost use Rattle.wh_prover.specs.Walk.{AddsNode, IsEnd, dropped_by};
 
@@ -165,7 +164,7 @@ fn interpret<'a>(
     }
 }
 
-// A node of a path order, where no projection and no interpretation lets a pair go.
+// A node of a path order, where no projection and no interpretation that covers all rules lets a pair go.
 fn order<'a>(
     alloc: Global,
     setting: &Setting<'a>,
@@ -177,7 +176,7 @@ fn order<'a>(
     requires pairs { HasPairs (system_data setting.now.system.now) (pairs_data setting.now.pairs.now) }
     requires ended { Ended (system_data setting.now.system.now) (pairs_data setting.now.pairs.now) set }
     requires none { HasNoProjection (system_data setting.now.system.now).rules (pairs_data setting.now.pairs.now) set }
-    requires none_either { HasNoInterpretation (task_of (system_data setting.now.system.now) (pairs_data setting.now.pairs.now) set) }
+    requires none_either { HasNone (system_data setting.now.system.now) (pairs_data setting.now.pairs.now) set setting.now.tries }
     requires some { 0 < setting.now.tries }
     ensures { IfOk result (λ end. MatchOption end (AddsNode setting.now.system.now setting.now.pairs.now set
         stack.old.items stack.new.items nodes.old nodes.new)

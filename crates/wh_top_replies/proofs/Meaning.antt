@@ -68,7 +68,7 @@ no_means system cert d ps (no term steps at puts) reads text is (claim, says, va
 first_byte : (a b : ℕ) (xs ys : List ℕ) → a ∷ xs ≡ b ∷ ys → a ≡ b
 first_byte a b xs ys e = cc
 
-not_byte : (n a : ℕ) (xs rest : List ℕ) → (a ≡ n → ⊥) → a ∷ xs ≡ n ∷ rest → ⊥
+pub not_byte : (n a : ℕ) (xs rest : List ℕ) → (a ≡ n → ⊥) → a ∷ xs ≡ n ∷ rest → ⊥
 not_byte n a xs rest differs e = differs (first_byte a n xs rest e)
 
 -- of the texts of answers only that of YES begins so
@@ -103,7 +103,7 @@ some_same : (a b : List ℕ) → Some a ≡ Some b → a ≡ b
 some_same a b e = cc
 
 -- what was written is a front part of the text
-output_front : (old new : Option (List ℕ)) (f g : ℕ) (status result : Status) (before text output : List ℕ)
+pub output_front : (old new : Option (List ℕ)) (f g : ℕ) (status result : Status) (before text output : List ℕ)
     → EndsWith old new f g status text result → old ≡ Some before → new ≡ Some (before ++ output) → (back : List ℕ) × (text ≡ output ++ back)
 output_front old new f g status result before text output (inl (same, wrote, faults)) e h =
     let both = some_same (before ++ text) (before ++ output) (sym (wrote before e) ∙ h) in

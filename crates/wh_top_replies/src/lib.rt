@@ -7,4 +7,5 @@ mod reducing;
 mod refuting;
 mod replying;
 
+pub use proving::found_text;
 pub use replying::{Reply, reply_to};

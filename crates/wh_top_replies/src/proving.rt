@@ -40,8 +40,8 @@ pub fn prove_file<S: Shelf>(
     found_text(alloc, &problem, options)
 }
 
-// The text of what the search finds, or why it finds nothing.
-fn found_text(alloc: Global, problem: &Problem, options: &Options) -> Result<Bytes, Or<Report>>
+/// The text of what the search finds for a problem that was read, or why it finds nothing.
+pub fn found_text(alloc: Global, problem: &Problem, options: &Options) -> Result<Bytes, Or<Report>>
     requires pairs { HasPairs (system_data problem.now.system) (pairs_data problem.now.pairs) }
     ensures found { MatchOr result (IsFoundText (system_data problem.now.system) (pairs_data problem.now.pairs) options.now)
         (IsNotFound (system_data problem.now.system) (pairs_data problem.now.pairs) options.now) }

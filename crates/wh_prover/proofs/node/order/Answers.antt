@@ -33,7 +33,7 @@ returns-in_ok-push-in-Found-2 c =
     let kept = subst (λ (s : List ℕ). IsSetOf (IsKept set s) rest) c.as_slice.ensures c.in_ok-kept-in-Found.ensures in
     adds_order d ps set rest (map said_filter node.funs) (map said_filter node.marks) (map inference node.rules) (map inference node.pairs) node.drop
     (reverse stack) (reverse c.push.new.self.items) (map said_node c.args.nodes.now) (map said_node c.push-in-Found.new.self)
-    c.requires.ended c.requires.none c.requires.none_either found kept
+    c.requires.ended c.requires.none c.requires.none_either.over_all found kept
     (ap reverse c.in_ok-push-in-Found.ensures.items ∙ reverse_push stack rest)
     (said_push c.args.nodes.now c.push-in-Found.new.self (code.Order c.in_ok-new-in-Found.field-0) c.in_ok-push-in-Found-2.ensures.ok
     ∙ ap (λ (x : OrderNode). map said_node c.args.nodes.now ++ said_order x ∷ []) c.in_ok-new-in-Found.ensures.ok)

@@ -10,7 +10,7 @@ use Rattle.wh_pairs.specs.Views.{pairs_data}
 use Rattle.wh_pairs.specs.Sets.{IsSetOf}
 use Rattle.wh_cert.specs.Said.{said_node, said_yes}
 use Rattle.wh_cert_versions.specs.Certificates.{IsCertificateOf}
-use Rattle.wh_prover.proofs.ProofLemmas.{proof_of_tree}
+use Rattle.wh_prover.proofs.ProofLemmas.{no_proof_of_end, proof_of_tree}
 use Rattle.wh_prover.proofs.search.prove_under.Goals as goal
 
 pub walk-requires-clause-whole : goal.walk-requires-clause-whole
@@ -36,3 +36,9 @@ returns c =
     let made = subst (λ k. IsCertificateOf k c.in_ok-listed.listed m lines certificate) rules c.in_ok-certificate.ensures in
     let same = subst (λ (l : List ℕ). IsCertificateOf (length d.rules) l m lines certificate) c.in_ok-listed.ensures made in
     proof_of_tree d ps ranks m set lines certificate c.is_well_made.ensures c.requires.pairs c.requires.passing c.requires.each c.requires.low count whole tree same
+
+pub returns-in-Some : goal.returns-in-Some
+returns-in-Some c =
+    let end = rw c.in-Some.is at c.in_ok-cause.ensures in
+    no_proof_of_end (system_data c.args.system.now) (pairs_data c.args.pairs.now) c.args.tries c.in-Some.cause
+    (c.args.ranks.now, c.requires.each, c.requires.passing) end

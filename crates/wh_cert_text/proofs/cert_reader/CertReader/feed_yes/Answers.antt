@@ -2,9 +2,8 @@ use Rattle.std.proofs.Common.{◌≡◌, sym, ap, ◌∙◌, subst}
 use Rattle.wh_cert_machines.specs.LineMachine.{standing_after_yes}
 use Rattle.wh_cert_machines.specs.YesMachine as y
 use Rattle.wh_cert_machines.specs.YesViews.{yes_place}
-use Rattle.wh_cert_text.specs.Handing.{TakesYes}
+use Rattle.wh_cert_text.specs.Handing.{TakesYes, wanted}
 use Rattle.wh_cert_text.specs.Feeding.{Tracks}
-use Rattle.wh_cert_text.specs.ReadViews.{wanted}
 use Rattle.wh_cert_machines.specs.declared.progress.YesItems.{YesItems}
 use Rattle.wh_cert_text.specs.declared.items_out.Taken.{Taken}
 use Rattle.wh_cert_text.specs.declared.items_out.Taken.TheVariants.{On}
