@@ -98,9 +98,9 @@ pub fn raw_of(alloc: Global, system: &System, term: &Term) -> Result<Option<RawT
 }
 
 // The type of the variable that the raw tree is.
-fn kind_in(raw: RawTerm) -> Option<Box<RawType>> {
+fn kind_in(raw: RawTerm) -> Option<RawType> {
     match raw {
-        RawTerm::Free(_, kind, _) => Some(kind),
+        RawTerm::Free(_, kind, _) => Some(Box::into_inner(kind)),
         _ => None,
     }
 }
@@ -112,11 +112,8 @@ pub fn raw_kind_of(
     kind: &SimpleType,
 ) -> Result<Option<RawType>, AllocError> {
     let variable = Term::Free(0, kind.copy(alloc)?);
-    let Some(raw) = raw_of(alloc, system, &variable)? else {
-        return Ok(None);
-    };
-    match kind_in(raw) {
-        Some(kind) => Ok(Some(Box::into_inner(kind))),
+    match raw_of(alloc, system, &variable)? {
+        Some(raw) => Ok(kind_in(raw)),
         None => Ok(None),
     }
 }
