@@ -340,6 +340,7 @@ REFUSALS = [
     ("undefined", "f = undefined", "4:5", "`undefined` is no part of the language"),
     ("error", "f x = error x", "4:7", "`error` is no part of the language"),
     ("polymorphic recursion", "f :: Nat -> a -> Nat\nf Zero _ = Zero\nf (Succ n) x = f n (x, x)", "5:1", "ever larger types"),
+    ("polymorphic recursion through fst", "f :: a -> a\nf x = fst (f (x, x))", "5:1", "`f` is used at ever larger types"),
     ("nested data", "data N a = E | C a (N (a, a))\nf :: N a -> Nat\nf E = Zero\nf (C _ _) = 1", "4:6", "ever larger types"),
     ("name", "foldup x = x\ng = fuldup Zero", "5:5", "`fuldup` is not in scope: is `foldup` meant?"),
     ("constructor", "f (Jus x) = x", "4:4", "`Jus` is not in scope: is `Just` meant?"),

@@ -201,6 +201,7 @@ class Maker:
         self.constructors, self.parameters, self.data = dict(CONSTRUCTORS), dict(PARAMETERS), []
         self.functions = known(PRELUDE) + known(COMPARING, ("a",))
         self.operators = known(OPERATORS) + [Known(it, read_type("a -> a -> Bool"), ("a",)) for it in COMPARISONS]
+        self.own = []  # the functions of the module; at ever larger types of their variables they may not call one another
         self.compared = ()  # the type variables here that have an order
         self.left = 0  # how many expressions an equation may try yet
 
@@ -333,9 +334,12 @@ class Maker:
         return found
 
     def argument(self, function, kind, found, names, depth, indent):
-        """An argument of a function. Where values of its type are compared, nothing else may say what that is."""
+        """An argument of a function. Where values of its type are compared, nothing else may say what that is.
+
+        A name has a type with variables from the patterns of the equation alone; one that is bound to `[]` does not tell.
+        """
         text, here = self.expression(put(kind, found), names, depth, indent), put(kind, found)
-        if text in names or not variables(kind) & set(function.compared):
+        if not variables(kind) & set(function.compared) or variables(here) and text in names:
             return text
         if variables(here):
             raise Fails
@@ -350,6 +354,8 @@ class Maker:
                 found = {}
                 if taken and fit(left, kind, found):
                     found = self.filled(function, found)
+                    if function in self.own and not all(is_variable(it) or not variables(it) for it in found.values()):
+                        raise Fails
                     parts = [self.argument(function, it, found, names, depth, indent) for it in taken]
                     return f"({' '.join([function.name, *parts])})"
                 if left[0] != "->":
@@ -484,9 +490,9 @@ def well_typed(seed):
     maker = Maker(seed)
     head = "module M where\n\nimport Prelude hiding (length, take, drop, replicate)\nimport Nat\n"
     texts = [head, *(maker.make_data() for _ in range(maker.random.randrange(1, 4)))]
-    new = [maker.signature() for _ in range(maker.random.randrange(2, 7))]
-    maker.functions += new
-    return "\n".join([*texts, *(maker.definition(it) for it in new)])
+    maker.own = [maker.signature() for _ in range(maker.random.randrange(2, 7))]
+    maker.functions += maker.own
+    return "\n".join([*texts, *(maker.definition(it) for it in maker.own)])
 
 
 # patterns that overlap, and what comes out where equations are read from the top

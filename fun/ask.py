@@ -32,11 +32,21 @@ class Answer:
     reason: str = ""
     certificate: str = ""
     seconds: float = 0.0
+    hunted: str = ""  # how the longer search ended, if it found nothing
 
     @property
     def found(self):
         """YES, NO or MAYBE."""
         return self.word if self.word in PROOFS else "MAYBE"
+
+
+def read_answer(output):
+    """The answer that a search prints: its first word, and for a proof the whole as the certificate."""
+    line, _, _ = output.partition("\n")
+    found = re.fullmatch(r"([A-Z]+(?: [A-Z]+)*)(?: (.*))?", line)
+    if not found:
+        return Answer("FAILED")
+    return Answer(found[1], "", output) if found[1] in PROOFS else Answer(found[1], found[2] or "")
 
 
 def place_of(name):
@@ -139,13 +149,7 @@ class Runner:
     def searched(self, program, *words):
         """What a search prints."""
         output = self.run(program, *words)
-        if output is None:
-            return Answer("TIMEOUT", f"{self.seconds:g}")
-        line, _, _ = output.partition("\n")
-        found = re.fullmatch(r"([A-Z]+(?: [A-Z]+)*)(?: (.*))?", line)
-        if not found:
-            return Answer("FAILED")
-        return Answer(found[1], "", output) if found[1] in PROOFS else Answer(found[1], found[2] or "")
+        return Answer("TIMEOUT", f"{self.seconds:g}") if output is None else read_answer(output)
 
     def checked(self, system, answer):
         """The answer, if it is none that `check` does not accept."""
@@ -159,10 +163,18 @@ class Runner:
         begun = time.monotonic()
         system = self.file(text)
         answer = self.checked(system, self.searched(self.program, "prove", system))
+        hunted = ""
         if answer.word not in (*PROOFS, "REFUSED") and self.hunt:
-            longer = self.searched(self.hunt, system)
-            answer = longer if longer.word in PROOFS else answer
-        return Answer(answer.word, answer.reason, answer.certificate, time.monotonic() - begun)
+            answer, hunted = self.hunted(system, answer)
+        return Answer(answer.word, answer.reason, answer.certificate, time.monotonic() - begun, hunted)
+
+    def hunted(self, system, answer):
+        """What the longer search finds, or the answer as it was, and how that search ended: the lines behind `MAYBE`."""
+        output = self.run(self.hunt, system)
+        if output is None:
+            return answer, f"hunted for {self.seconds:g} seconds"
+        longer = read_answer(output)
+        return (longer, "") if longer.word in PROOFS else (answer, ", ".join(output.splitlines()[1:]))
 
     def all_of(self, questions, ask, jobs):
         """`ask` of each question, several at once, in the order of the questions.

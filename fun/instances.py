@@ -62,6 +62,7 @@ class Program:
         self.symbols = {}  # (node, types) to symbol
         self.functions = {}  # symbol to core.Function
         self.waiting = []
+        self.user = None  # the module's function whose body is made, or that wanted the known one whose body is made
         self.defaults = []  # (function's node, type variable's name, type's name)
         self.roots = []  # (node, symbol)
 
@@ -69,7 +70,8 @@ class Program:
         """The symbol of a function at types; its body is made later."""
         key = (id(node), type_arguments)
         if key not in self.symbols:
-            self.look_at_size(node, type_arguments)
+            user = node if node.at[0] or self.user is None else self.user
+            self.look_at_size(user, type_arguments)
             table = dict(zip(node.scheme.variables, type_arguments))
             type_ = replaced(node.scheme.type, table)
             arity = max(argument_count(node.scheme.type), node.arity)
@@ -80,7 +82,7 @@ class Program:
             if known:
                 self.name_known(symbol, node, type_arguments)
             self.symbols[key] = symbol
-            self.waiting.append((symbol, node, table))
+            self.waiting.append((symbol, node, table, user))
         return self.symbols[key]
 
     def name_known(self, symbol, node, type_arguments):
@@ -119,7 +121,7 @@ class Program:
     def make_all(self):
         """Makes the bodies of all functions that are wanted."""
         while self.waiting:
-            symbol, node, table = self.waiting.pop()
+            symbol, node, table, self.user = self.waiting.pop()
             maker = Maker(self, symbol, table)
             function = maker.function(node, {})
             if node.binding.known:

@@ -209,7 +209,7 @@ def who_calls(words, pairs):
 
 def tell_maybe(words, row):
     pairs = pairs_left(words)
-    told = [reason_of(row.answer), who_calls(words, pairs)]
+    told = [reason_of(row.answer), who_calls(words, pairs), row.answer.hunted]
     row.words = "; ".join(it for it in told if it) or row.answer.reason
     for pair in pairs:
         row.calls.append((words.line(pair.rule), f"{words.term(pair.left)} calls {words.term(pair.right)}"))
@@ -315,6 +315,10 @@ MEANING = {
 }
 
 
+def counted(rows):
+    return f"{len(rows)} function" + ("s" if len(rows) != 1 else "")
+
+
 def printed(report):
     """The lines of `--prove`."""
     counts = {word: sum(row.answer.found == word for row in report.rows) for word in MEANING}
@@ -323,7 +327,7 @@ def printed(report):
     if report.whole.word == "YES":
         yield f"{module}: YES, each expression over the module comes to an end."
     else:
-        yield f"{module}: {told or report.whole.found}; {len(report.rows)} functions, each asked with what it calls"
+        yield f"{module}: {told or report.whole.found}; {counted(report.rows)}, each asked with what it calls"
     yield ""
     yield from columns(report)
     for row in report.rows:
@@ -459,7 +463,10 @@ def tell(translation, words):
     """Asks and prints; the status of the script."""
     try:
         program = ask.ready("wanda", "gen", "1")
-        with ask.Runner(program, words.seconds, ask.hunter() if words.hunt else None) as runner:
+        hunter = ask.hunter() if words.hunt else None
+        if words.hunt and not hunter:
+            print("wanda-fun: wanda-hunt is not built here, so prove alone is asked", file=sys.stderr)
+        with ask.Runner(program, words.seconds, hunter) as runner:
             if words.explain is not None:
                 lines = explained(translation, runner, words.explain)
                 if lines is None:
