@@ -1,7 +1,9 @@
 -- What an output of the hunt means that begins with YES or with NO.
-use Rattle.std.proofs.Common.{◌≡◌, ℕ, inl, inr, List, [], ◌∷◌, ◌++◌, Option, Some, refl, sym, ap, ◌∙◌, arith}
+use Rattle.std.proofs.Common.{◌≡◌, ℕ, inl, inr, Result, Ok, Err, List, ◌∷◌, ◌++◌, Option, Some, refl, sym, ap, ◌∙◌, arith}
 use Rattle.std.specs.Prelude.{codes}
-use Rattle.wh_types.specs.Limits.{system_limit}
+use Rattle.wh_types.specs.Outcome.{MatchOr}
+use Rattle.wh_types.specs.declared.want.Or.{Or}
+use Rattle.wh_types.specs.declared.want.Or.TheVariants.{NoMemory, Because}
 use Rattle.wh_system.specs.Systems.{SystemData}
 use Rattle.wh_pairs.specs.PairData.{PairData}
 use Rattle.wh_pairs.specs.SystemPairs.{HasPairs}
@@ -10,8 +12,9 @@ use Rattle.wh_answer.specs.Texts.{report_text}
 use Rattle.wh_answer.specs.declared.report.Report.{Report}
 use Rattle.wh_answer.specs.declared.report.Report.TheVariants.{Yes, No, Rejected, Maybe, Refused, BadWords, ReadFault, OutOfMemory, TooLong, Overflow, TooLarge}
 use Rattle.wh_top_naming.specs.declared.status.Status.{Status}
-use Rattle.wh_top_judging.specs.Outcomes.{Shelves, BeginsWith, Told}
+use Rattle.wh_top_judging.specs.Outcomes.{Shelves, BeginsWith, Told, ToldSystem}
 use Rattle.wh_prover.proofs.LoopLemmas.{loop_is_valid}
+use Rattle.wh_top_replies.specs.Proving.{IsFoundText, StandsForSearch}
 use Rattle.wh_top_replies.specs.Run.{EndsWith, MeansYes, MeansNo}
 use Rattle.wh_top_replies.proofs.Meaning.{yes_means, no_means, same_yes, same_no, not_byte, output_front}
 use Rattle.wh_hunt.specs.Hunting.{Answers, served, misspoken, starved, Asked, Hunts, IsHunted, SaysNo, usual_options}
@@ -108,3 +111,11 @@ module _ (s : Shelves) where
   non_termination words status text old new f g result answers ends before output e h (rest, begins) =
       let (back, cut) = output_front old new f g status result before text output ends e h in
       (text, (back, cut), no_asked words status text _ answers (cut ∙ ap (λ x. x ++ back) begins))
+
+-- what the search finds is hunted
+pub searched_is_hunted : (s : Shelves) (file : List ℕ) (r : Result (List ℕ) (Or Report))
+    → MatchOr r (λ text. ToldSystem (s.held file) (λ d ps. IsFoundText d ps usual_options text)) (StandsForSearch s file usual_options)
+    → MatchOr r (λ text. ToldSystem (s.held file) (λ d ps. IsHunted d ps text)) (StandsForSearch s file usual_options)
+searched_is_hunted s file (Ok text) h = λ system held. let (within, d, ps, reads, has, is) = h system held in (within, d, ps, reads, has, inr is)
+searched_is_hunted s file (Err NoMemory) h = tt
+searched_is_hunted s file (Err (Because r)) h = h

@@ -15,7 +15,7 @@ use Rattle.wh_top_naming.specs.declared.status.Status.{Status}
 use Rattle.wh_top_naming.specs.declared.status.Status.TheVariants.{Answered, BadWords, NoMemory}
 use Rattle.wh_top_judging.specs.Outcomes.{Shelves, BeginsWith, IsNo, Told, ToldSystem}
 use Rattle.wh_top_replies.specs.Proving.{IsFoundText, StandsForSearch}
-use Rattle.wh_top_replies.specs.Run.{MeansYes, MeansNo}
+use Rattle.wh_top_replies.specs.Run.{MeansNo}
 use Rattle.wh_hunt.specs.Words.{AsksHunt}
 
 -- the bounds of the search that follows the hunt for loops: the usual ones of `prove`
@@ -33,7 +33,7 @@ IsHunted d ps text = (IsLoopOf d ps text × BeginsWith (codes "NO") text) ⊎ Is
 -- the line behind a MAYBE: how much work the hunt for loops did, less than it might where it had nothing left to do, and
 -- else all of it
 abbrev pub hunted_line : ℕ → List ℕ → List ℕ
-hunted_line done word = codes "hunted loops " ++ decimal done ++ 32 ∷ word ++ 10 ∷ []
+hunted_line done word = codes "hunted loops " ++ (decimal done ++ 32 ∷ (word ++ 10 ∷ []))
 
 pub data IsEndOf (work : ℕ) : List ℕ → Type 0 where
   exhausted : (done : ℕ) → done < work → IsEndOf work (hunted_line done (codes "exhausted"))

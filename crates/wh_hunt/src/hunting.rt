@@ -1,6 +1,6 @@
 //! The hunt: loops in the graph of calls first, then what `prove` searches for. `hunt_file` is the main function.
 
-ghost use Rattle.std.specs.Prelude.{◌≡◌, ◌×◌, ℕ, List, IfOk, IfSome, IsTrue, codes};
+ghost use Rattle.std.specs.Prelude.{◌≡◌, ℕ, List, IfOk, IfSome, IsTrue, codes};
 ghost use Rattle.wh_types.specs.Outcome.{MatchOr};
 ghost use Rattle.wh_system.specs.SystemView.{system_data};
 ghost use Rattle.wh_pairs.specs.SystemPairs.{HasPairs};
