@@ -20,22 +20,25 @@ fn applied(alloc: Global, term: Term, kind: &SimpleType, number: u32) -> Result<
     }
 }
 
-// The left side applied to variables for the arguments that its type has; `None` where that has none.
-fn applied_start(
+// The term joins with canonical names.
+fn add_start(alloc: Global, term: &Term, starts: &mut Vec<Term>) -> Result<(), AllocError> {
+    starts.push(canonical(alloc, term, &[])?)?;
+    Ok(())
+}
+
+// The left side applied to a variable for each argument of its type, numbered from `first` on, joins.
+fn add_whole(
     alloc: Global,
     system: &System,
     start: Term,
-    metas: &Metas,
-) -> Result<Option<Term>, AllocError> {
-    match type_of(alloc, system.signature(), &Metas::new(alloc), &start)? {
-        Some(SimpleType::Arrow(argument, rest)) => {
-            let kind = SimpleType::Arrow(argument, rest);
-            let first = counted(metas.as_slice().len())?;
-            let whole = applied(alloc, start, &kind, first)?;
-            Ok(Some(canonical(alloc, &whole, &[])?))
-        }
-        _ => Ok(None),
-    }
+    first: u32,
+    starts: &mut Vec<Term>,
+) -> Result<(), AllocError> {
+    let Some(kind) = type_of(alloc, system.signature(), &Metas::new(alloc), &start)? else {
+        return Ok(());
+    };
+    let whole = applied(alloc, start, &kind, first)?;
+    add_start(alloc, &whole, starts)
 }
 
 // The starts of the rule with the number join.
@@ -48,16 +51,14 @@ fn add_starts(
     let Some(rule) = system.rules().get(number as usize) else {
         return Ok(());
     };
+    let first = counted(rule.metas.as_slice().len())?;
     let start = start_of_rule(alloc, system, number)?;
-    starts.push(canonical(alloc, &start, &[])?)?;
-    if let Some(whole) = applied_start(alloc, system, start, &rule.metas)? {
-        starts.push(whole)?;
-    }
-    Ok(())
+    add_start(alloc, &start, starts)?;
+    add_whole(alloc, system, start, first, starts)
 }
 
-/// The left sides of the rules with a free variable in place of each meta-variable, with canonical names; behind one of
-/// functional type the same one with a variable for each further argument.
+/// The left sides of the rules with a free variable in place of each meta-variable, with canonical names, and behind
+/// each the same term with a variable for each argument that its type has. These two are equal where it has none.
 pub fn starts_of(alloc: Global, system: &System) -> Result<Vec<Term>, AllocError> {
     let mut starts = Vec::new(alloc);
     for number in 0..system.rules().len() {
