@@ -105,14 +105,23 @@ fn kind_in(raw: RawTerm) -> Option<RawType> {
     }
 }
 
+// The raw tree of a variable of the type.
+fn raw_variable(
+    alloc: Global,
+    system: &System,
+    kind: &SimpleType,
+) -> Result<Option<RawTerm>, AllocError> {
+    let variable = Term::Free(0, kind.copy(alloc)?);
+    raw_of(alloc, system, &variable)
+}
+
 /// The raw tree of the type; `None` where a sort of it is none of the system's.
 pub fn raw_kind_of(
     alloc: Global,
     system: &System,
     kind: &SimpleType,
 ) -> Result<Option<RawType>, AllocError> {
-    let variable = Term::Free(0, kind.copy(alloc)?);
-    match raw_of(alloc, system, &variable)? {
+    match raw_variable(alloc, system, kind)? {
         Some(raw) => Ok(kind_in(raw)),
         None => Ok(None),
     }

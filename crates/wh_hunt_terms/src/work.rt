@@ -1,6 +1,6 @@
 //! The work of a hunt: one number that every part of it takes from.
 
-ghost use Rattle.std.specs.Prelude.{◌≡◌, ◌≤◌};
+ghost use Rattle.std.specs.Prelude.{◌≡◌, ◌<◌, ◌+◌, MatchBool};
 
 /// What is left of the work that a hunt may do. One unit is the visit of one node of a term.
 #[derive(Drop)]
@@ -18,7 +18,7 @@ impl Work {
 
     /// Takes the units from what is left; the answer is whether there were as many. Else nothing is left.
     pub fn spend(&mut self, units: u64) -> bool
-        ensures { self.new.left ≤ self.old.left }
+        ensures { MatchBool result (self.new.left + units ≡ self.old.left) ((self.old.left < units) × (self.new.left ≡ 0)) }
     {
         match self.left.checked_sub(units) {
             Some(left) => {
