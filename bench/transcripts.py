@@ -7,7 +7,8 @@ The pages are README.md, docs/TUTORIAL.md and docs/REFERENCE.md. A block of line
 line before a command begins a new one. In a block a command is a line with `$`, and its output the lines behind it. A
 block below a paragraph that ends with "file `NAME`:" is that file. All commands of a page are run in one new folder,
 in which ./wanda, ./wanda-all, ./wanda-explain, ./wanda-fun and examples are those of this repository. What is shown may
-also be what a terminal shows, where the command says more there. Times, as 0.123, may differ.
+also be what a terminal shows, where the command says more there. Times, as 0.123, may differ. The status is 77 where a
+search did not end in its time, as on a machine that is busy.
 """
 
 import argparse
@@ -25,6 +26,8 @@ PAGES = ("README.md", "docs/TUTORIAL.md", "docs/REFERENCE.md")
 BLOCK = re.compile(r"(?m)(?P<before>^.*\n)?\n(?P<block>(?:^    .*\n|^\n(?=    (?!\$ )))+)")
 FILE = re.compile(r"file `([^`/]+)`:\n$")
 TIME = re.compile(r" +\d+\.\d{3}\b")
+NO_END = re.compile(r"\bTIMEOUT\b|no answer in \d+ seconds")
+TOO_BUSY = 77
 
 
 def unindented(block):
@@ -86,7 +89,7 @@ def main():
     parser = argparse.ArgumentParser(description=__doc__, formatter_class=argparse.RawDescriptionHelpFormatter)
     parser.add_argument("--write", action="store_true", help="puts there what the commands print")
     options = parser.parse_args()
-    differs = False
+    differs = is_busy = False
     for page in PAGES:
         text = (TOP / page).read_text()
         with tempfile.TemporaryDirectory(prefix="wanda-transcripts-") as room:
@@ -94,9 +97,13 @@ def main():
                 (pathlib.Path(room) / name).symlink_to(TOP / name)
             new = settled_page(text, pathlib.Path(room))
         differs |= new != text
+        is_busy |= len(NO_END.findall(new)) > len(NO_END.findall(text))
         sys.stdout.writelines(difflib.unified_diff(text.splitlines(True), new.splitlines(True), page, "as printed"))
         if options.write:
             (TOP / page).write_text(new)
+    if is_busy:
+        print("a search did not end in its time: this machine is too busy")
+        return TOO_BUSY
     return 1 if differs and not options.write else 0
 
 

@@ -23,7 +23,8 @@ checked by `sha256sum -c`: those of the archive's files where it was unpacked, t
     grep -E '  (README$|bin/|libexec/|share/)' PROVED | sha256sum -c --quiet
     grep -vE '  (README$|bin/|libexec/|share/)' PROVED | sha256sum -c --quiet 2> /dev/null
 
-What is proved is the programs. The scripts in bin/ and libexec/ are trusted, and are files of the same commit.
+What is proved is the programs: README.md of the sources (here share/doc/wanda/html/index.html) says what of them, and
+what is trusted. The scripts in bin/ and libexec/ are trusted; they are files of the same commit.
 """
 
 
