@@ -6,7 +6,7 @@
 The pages are README.md, docs/TUTORIAL.md and docs/REFERENCE.md. A block of lines is indented by four spaces; a blank
 line before a command begins a new one. In a block a command is a line with `$`, and its output the lines behind it. A
 block below a paragraph that ends with "file `NAME`:" is that file. All commands of a page are run in one new folder,
-in which ./wanda, ./wanda-all, ./wanda-explain, ./wanda-fun and examples are those of this repository. What is shown may
+in which ./wanda, ./wanda-hunt and the other scripts and examples are those of this repository. What is shown may
 also be what a terminal shows, where the command says more there. Times, as 0.123, may differ. The status is 77 where a
 search did not end in its time, as on a machine that is busy.
 """
@@ -93,7 +93,7 @@ def main():
     for page in PAGES:
         text = (TOP / page).read_text()
         with tempfile.TemporaryDirectory(prefix="wanda-transcripts-") as room:
-            for name in ("wanda", "wanda-all", "wanda-explain", "wanda-fun", "examples"):
+            for name in ("wanda", "wanda-all", "wanda-explain", "wanda-fun", "wanda-hunt", "examples"):
                 (pathlib.Path(room) / name).symlink_to(TOP / name)
             new = settled_page(text, pathlib.Path(room))
         differs |= new != text

@@ -1,0 +1,9 @@
+//! The hunt for loops: `run` is what the program `wanda-hunt` calls. What is found is checked before it is told.
+#![tactic(auto)]
+
+mod hunting;
+mod program;
+mod telling;
+mod words;
+
+pub use program::{report_no_memory, run};
