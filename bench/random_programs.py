@@ -161,6 +161,7 @@ OPERATORS = """
 $ (a -> b) -> a -> b
 """
 EFFORT = 200  # so many expressions are tried for an equation
+TRIES = 100  # so often an equation is tried
 COMPARISONS = "== /= < <= > >=".split()
 
 
@@ -463,9 +464,9 @@ class Maker:
         return Known(self.new("f"), kind, compared)
 
     def equation(self, function):
-        """The lines of an equation."""
+        """The lines of an equation. Where none is found, as often for `(a -> b) -> a`, the function calls itself as it is."""
         parts, result = arguments(function.kind)
-        while True:
+        for _ in range(TRIES):
             self.left, names = EFFORT, {}
             try:
                 patterns = [self.pattern(it, 2, names) for it in parts]
@@ -474,6 +475,8 @@ class Maker:
                 return lines + (["  where", *(f"    {it}" for it in where)] if where else [])
             except (Fails, TooLarge):
                 pass
+        call = " ".join([function.name, *(self.new("x") for _ in parts)])
+        return [f"{call} = {call}"]
 
     def definition(self, function):
         """A signature and its equations."""
