@@ -11,8 +11,9 @@ use Rattle.wh_access.specs.declared.find.NoRanks.{NoRanks}
 use Rattle.wh_access.specs.declared.find.NoRanks.TheVariants.{Unread, Cycle}
 use Rattle.wh_access.specs.declared.demands.Demands.{Demands}
 
--- why there are no ranks: the first meta-variable that is used and not read, or, where each is read, a cycle of demands
--- with a strict one
+-- why there are no ranks: the first meta-variable that is used and not read, by rule and then by number; or, where each
+-- is read, a cycle of demands with a strict one, listed from sort to sort along the demands, so that it can be followed
+-- by hand
 abbrev pub IsCause : SystemData → NoRanks → Type 0
 IsCause d (Unread i z) = IsFirstUnread d.rules i z
 IsCause d (Cycle sorts) = AllRead d.rules × IsStrictCycle d.symbols d.rules sorts

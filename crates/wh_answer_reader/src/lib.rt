@@ -1,4 +1,5 @@
-//! Reading answers back from their lines: the inverse of printing them.
+//! Reading answers back from their lines: the inverse of printing them. No command reads an answer, so the program does
+//! not wait for this proof.
 #![tactic(auto)]
 
 mod causes;

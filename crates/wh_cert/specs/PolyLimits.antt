@@ -1,4 +1,5 @@
--- The limits of the format on polynomials (ours).
+-- The limits of the format on polynomials (ours). No limit says how long lists inside a polynomial may be: none is
+-- longer than the text.
 use Rattle.std.specs.Prelude.{ℕ, suc, ◌<◌, ◌≤◌}
 use Rattle.wh_types.specs.Limits.{greatest_number, deepest_certificate_polynomial, coefficient_end}
 use Rattle.wh_poly.specs.Polynomials.{Polynomial, zero_poly, plus, Factors, no_factors, times, Arguments, no_arguments, argument}

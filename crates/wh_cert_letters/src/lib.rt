@@ -1,4 +1,5 @@
-//! Names and numbers of a certificate's lines, read byte by byte. The readers of its larger parts stand on them.
+//! Names and numbers of a certificate's lines, read byte by byte. The readers of its larger parts stand on them. The
+//! crate is small, so that its edits that must fail, each of which costs a proof of it, are cheap.
 #![tactic(auto)]
 
 mod letters;

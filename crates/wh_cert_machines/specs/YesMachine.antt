@@ -72,7 +72,9 @@ pub data LineStep : Type 0 where
   gives : (i : Item) (p : Place) → LineStep
   refused : LineStep
 
--- the fixed word whose end leads there; that of `done` without its first byte, behind which no other word goes on
+-- the fixed word whose end leads there; that of `done` without its first byte, behind which no other word goes on.
+-- Behind `poly` nothing but `usable` may come in version 2, so both are read as one word; the list is kept beside the
+-- lines and goes into the node at its end, so that the reader of lines knows no version.
 abbrev pub spelling : Behind → List ℕ
 spelling to_version = codes "YES "
 spelling (to_list of_ranks) = line_feed ∷ codes "ranks"

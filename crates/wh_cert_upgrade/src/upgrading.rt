@@ -1,4 +1,6 @@
-//! Certificates of version 1, made certificates of version 2. `upgrade` is the main function.
+//! Certificates of version 1, made certificates of version 2. `upgrade` is the main function. It copies the
+//! certificate, since its caller has it checked and still holds it. The law that the copy is as valid stands in
+//! wh_cert_upgrade_laws, so that this crate does not wait for wh_proof.
 
 ghost use Rattle.std.specs.Prelude.{◌≡◌, ℕ, map, Some, IfOk};
 ghost use Rattle.wh_reduction_pairs.specs.TaskData.{numbers_from};

@@ -1,4 +1,5 @@
-//! The steps of a NO certificate, checked as they are read.
+//! The steps of a NO certificate, checked as they are read. Steps wait until there are 65,536, since to go over some of
+//! them copies the term.
 
 ghost use Rattle.std.specs.Prelude.{◌≡◌, ◌<◌, ◌+◌, ◌^◌, [], List, ℕ, length};
 ghost use Rattle.wh_types.specs.Outcome.{MatchOr};

@@ -1,4 +1,5 @@
-//! Gates of a circuit as clauses, and lists of wires.
+//! Gates of a circuit as clauses, and lists of wires. The crate is small, so that its edits that must fail, each of
+//! which costs a proof of it, are cheap.
 #![tactic(auto)]
 
 mod pieces;

@@ -1,4 +1,5 @@
-//! The words of the program `wanda_explain`, and the requests that they make.
+//! The words of the program `wanda_explain`, and the requests that they make. The crate stands on nothing, so that its
+//! clause is proved without the search below the explanations.
 #![tactic(auto)]
 
 mod request;

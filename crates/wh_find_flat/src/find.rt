@@ -111,7 +111,8 @@ fn copied(alloc: Global, numbers: &[u32]) -> Result<Vec<u32>, AllocError>
     Vec::from_slice(alloc, numbers)
 }
 
-// No set has more marked symbols, and no symbols have more bits of coefficients.
+// No set has more marked symbols, and no symbols have more bits of coefficients; what passes these bounds all the same
+// counts as want of memory.
 const MOST_MARKED: usize = 1024;
 
 const MOST_BITS: usize = 659_456;

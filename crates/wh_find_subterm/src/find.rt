@@ -33,8 +33,9 @@ pub struct ProjectionFound {
 
 /// A projection of the set that lets pairs go (the subterm criterion of Kop 2012), found as a model of a formula.
 ///
-/// `Found` drops every pair that is below. `Nothing` comes only where no projection of the marked symbols drops a pair
-/// of the set, and `Spent` only with as many learnt clauses as the budget allows; with a budget of 0 it comes always.
+/// `Found` drops every pair that is below, though a certificate may keep some: fewer pairs never make the rest harder.
+/// `Nothing` comes only where no projection of the marked symbols drops a pair of the set, and `Spent` only with as
+/// many learnt clauses as the budget allows; with a budget of 0 it comes always.
 pub fn find_projection(
     alloc: Global,
     system: &System,

@@ -1,4 +1,5 @@
--- What can be wrong with the blocks of a proof node, and what comes first.
+-- What can be wrong with the blocks of a proof node, and what comes first. Blocks may list their numbers in any order:
+-- sets are compared, and the order proves nothing.
 use Rattle.std.specs.Prelude.{ℕ, ◌<◌, ◌≤◌, ◌≡◌, ◌⊎◌, List, [], length, Contains}
 use Rattle.wh_graph.specs.Components.{StandsAt, IsIn, Partition}
 use Rattle.wh_graph.specs.declared.blocks.BlockFault.{BlockFault}

@@ -1,5 +1,5 @@
 -- `Clash`: a meta-term can reduce to no instance of a pattern, since their roots, or those of two parts, differ and
--- can't change.
+-- can't change. Types of binders are not compared: matching parts of two sides have one type.
 use Rattle.std.specs.Prelude.{◌≡◌, ◌≢◌, List, Some}
 use Rattle.wh_types.specs.Ty.{Ty}
 use Rattle.wh_terms.specs.Tree.{Tm, lam, app}

@@ -1,4 +1,7 @@
--- The components of a set of numbers, under a relation that says which may follow which.
+-- The components of a set of numbers, under a relation that says which may follow which. They stand in some order
+-- without an edge back to an earlier one. It can't be asked besides that, of two without a way between them, the one
+-- with the least number comes first: let 2 lead to 0, and 1 to neither; then 0 would stand before 1, 1 before 2, and 2
+-- before 0.
 use Rattle.std.specs.Prelude.{ℕ, ◌<◌, ◌≡◌, ◌↔◌, List, [], Some, Contains, slice_get}
 
 -- one leads to another within the set, by zero or more steps of the relation

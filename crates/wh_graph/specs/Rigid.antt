@@ -11,8 +11,8 @@ pub data Root : Type 0 where
   variable : (i n : ℕ) → Root
   symbol : (f n : ℕ) → Root
 
--- the root of a spine with this head and n arguments: a meta-application has none, nor has an abstraction that is
--- applied, nor a free variable
+-- the root of a spine with this head and n arguments. An abstraction that is applied has none, since a step makes
+-- anything of it; nor has a meta-application, since anything may stand for it, nor a free variable.
 abbrev pub root_at : Tm → ℕ → Option Root
 root_at (lam a t) zero = Some abstraction
 root_at (bound i) n = Some (variable i n)

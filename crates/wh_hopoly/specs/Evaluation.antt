@@ -1,5 +1,7 @@
--- The value of an expression under interpretations of its symbols, with all values on the way to it. Nothing here knows
--- a limit, a merge or a short cut: what a program does instead has to come to the same.
+-- The value of an expression under interpretations of its symbols, with all values on the way to it: each result of
+-- each rule, also where it is multiplied by 0 or thrown away later. An interpretation counts only where its symbol
+-- stands in the expression. Nothing here knows a limit, a merge or a short cut: what a program does instead has to come
+-- to the same.
 use Rattle.std.specs.Prelude.{ℕ, zero, suc, ◌+◌, ◌-◌, ◌==◌, nat_lt, List, [], ◌∷◌, ◌++◌, ◌≡◌, length, if◌then◌else◌, slice_get, Some, Contains}
 use Rattle.wh_types.specs.Ty.{Ty, sort, ◌⇒◌, arguments}
 use Rattle.wh_poly.specs.Polynomials.{HasType, Polynomial, zero_poly, plus, Factors, no_factors, times, Arguments, no_arguments, argument, Normal}

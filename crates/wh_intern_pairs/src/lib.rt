@@ -1,5 +1,6 @@
 //! Pairs and their conditions over trees that are numbered once: the arguments of all pairs join one table of nodes,
-//! and projections and polynomials are then checked by numbers.
+//! and projections and polynomials are then checked by numbers. Many crates stand on pairs, projections and
+//! polynomials, and would be proved anew with each change here: so this is a crate of its own.
 #![tactic(auto)]
 
 mod asked;

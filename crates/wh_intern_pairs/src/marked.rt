@@ -1,4 +1,6 @@
-//! The marked symbols of a set of pairs by numbers, and what is chosen for them.
+//! The marked symbols of a set of pairs by numbers, and what is chosen for them. The tests of marked symbols stand here
+//! a second time, and go other ways: a choice is found by halving, and a symbol of the set is looked for from where the
+//! one before it was found.
 
 ghost use Rattle.std.specs.Prelude.{◌≡◌, ◌↔◌, ◌<◌, ◌≤◌, ℕ, All, Contains, IsTrue, MatchOption, length, map};
 ghost use Rattle.wh_pairs.specs.PairData.{IsIncreasing};

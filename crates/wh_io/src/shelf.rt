@@ -8,8 +8,9 @@ ghost use Rattle.wh_io.specs.Outside.{ReadsAt, HasCause};
 #[derive(Clone, Copy)]
 pub struct Failed;
 
-/// Named files. `held` is what the file of a name holds, where the shelf tells it, and `faults` is
-/// how many reads under a name failed. One count may stand for all names.
+/// Named files. `held` is what the file of a name holds, where the shelf tells it; it is `None` both where there is no
+/// such file and where nothing is told, since no contract needs to tell the two apart. `faults` is how many reads under
+/// a name failed. One count may stand for all names.
 pub trait Shelf {
     ghost held: { Self → List ℕ → Option (List ℕ) };
 

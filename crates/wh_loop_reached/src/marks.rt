@@ -1,4 +1,5 @@
-//! Marks of terms: numbers by which most terms that differ are told apart at once.
+//! Marks of terms: numbers by which most terms that differ are told apart at once. Nothing rests on a mark but that
+//! equal terms have equal ones. So whether a term is new is found without a walk over the whole list.
 
 ghost use Rattle.std.specs.Prelude.{◌≡◌, ◌<◌, ◌^◌, ◌≤◌};
 ghost use Rattle.wh_terms.specs.Erase.{tm};

@@ -1,4 +1,6 @@
--- Matching: `IsMatch` says that a meta-substitution makes a pattern a term, and that it is the only one.
+-- Matching: `IsMatch` says that a meta-substitution makes a pattern a term, and that it is the only one. It is a
+-- relation on trees, without types: types of binders are compared as parts of trees, and on well-typed terms typing
+-- follows.
 use Rattle.std.specs.Prelude.{ℕ, ◌≡◌, ◌≢◌, ◌↔◌, List, All, AllPairs}
 use Rattle.wh_terms.specs.Tree.{Tm}
 use Rattle.wh_terms.specs.Measures.{Manageable}

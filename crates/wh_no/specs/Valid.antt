@@ -1,4 +1,6 @@
 -- `IsValid`: when the claim of a NO certificate is valid. Its term leads to one that holds an instance of it: a loop.
+-- What is put for a variable need not fit, and the variable need not stand in the term: neither matters for what a NO
+-- means.
 use Rattle.std.specs.Prelude.{ℕ, ◌<◌, ◌≡◌, List, [], length, Some, All, AllPairs}
 use Rattle.wh_types.specs.Ty.{SortsBelow}
 use Rattle.wh_terms.specs.Tree.{Tm, bound}
@@ -16,7 +18,8 @@ pub record IsPutOver (S : Symbols) (p : Put) : Type 0 where
   pub sorts_are_there : SortsBelow S.sorts p.kind
   pub typed : Typed S [] [] p.value p.kind
 
--- the number of one put is below that of another (ours)
+-- the number of one put is below that of another, whatever their types: so two variables of one number can't both be
+-- put (ours)
 abbrev pub IsBelow : Put → Put → Type 0
 IsBelow p q = p.number < q.number
 

@@ -1,4 +1,5 @@
-//! The types of filtered trees. `have_one_type` is the test that the check of the path order needs.
+//! The types of filtered trees. `have_one_type` is the test that the check of the path order needs. Most trees have the
+//! sort that all sorts have collapsed to, which is found without their types. Else both types are made.
 
 ghost use Rattle.std.specs.Prelude.{ℕ, ◌≡◌, ◌↔◌, [], IfOk, IsTrue, OnOk, length};
 ghost use Rattle.wh_types.specs.Erase.{ty};

@@ -1,5 +1,6 @@
 //! Trees that argument filterings leave of sides of rules and of pairs, as data: their parts, their types, and whether
-//! two of them are equal. A path order compares such trees.
+//! two of them are equal. A path order compares such trees. The crate is small, so that its edits that must fail, each
+//! of which costs a proof of it, are cheap.
 #![tactic(auto)]
 
 mod kinds;

@@ -1,5 +1,6 @@
 //! What sides are worth as numbers: with two numbers for each variable, and how that grows with the interpretations of
-//! symbols.
+//! symbols. Only wh_poly_ranges uses it. It stands apart since it waits for wh_poly_meaning and not for
+//! wh_poly_guesses: so it is off the longest chain of crates.
 #![tactic(auto)]
 
 mod refuting;

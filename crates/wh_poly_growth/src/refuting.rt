@@ -1,4 +1,6 @@
-//! Numbers that show that no moves cover one polynomial by another. The search in ranges asks for them.
+//! Numbers that show that no moves cover one polynomial by another. The search in ranges asks for them. All variables
+//! are 0, or one of them is 10^6 and the others are 0; each time the arguments of functional ones have 0, 1 or 10^6 as
+//! their factor. No types are looked up for that.
 
 ghost use Rattle.std.specs.Bool.{OnTrue};
 ghost use Rattle.std.specs.Prelude.{◌≡◌, IfOk, length};

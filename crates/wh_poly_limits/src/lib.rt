@@ -1,5 +1,6 @@
 //! The limits on values, and the steps that a limit can end: the weight of a value, a variable, the sum of two
-//! monomials, what one more monomial leaves of a limit, and a row that is made as a whole.
+//! monomials, what one more monomial leaves of a limit, and a row that is made as a whole. The crate is small, so that
+//! its edits that must fail, each of which costs a proof of it, are cheap.
 #![tactic(auto)]
 
 mod adding;

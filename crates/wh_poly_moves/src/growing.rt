@@ -1,5 +1,7 @@
 //! Growing flows: first between monomials with equal factors, then along paths until a right monomial has all that it
-//! wants.
+//! wants. Along a path units of moves go back as far as both ends of a step allow, step by step, and not by the least
+//! amount on the path, which would have to be found first. What the monomial where it begins still wants is the
+//! measure.
 
 ghost use Rattle.std.specs.Prelude.{◌≡◌, ◌≤◌, ◌<◌, [], IfOk, OnOk, length, slice_index};
 ghost use Rattle.std.specs.Bool.{MatchBool};

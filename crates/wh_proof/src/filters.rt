@@ -135,7 +135,8 @@ pub fn lines_of_filters(
     Ok(lines)
 }
 
-/// The lines `mark` of the filters of marked symbols.
+/// The lines `mark` of the filters of marked symbols. A symbol without a name counts as want of memory, as in
+/// `lines_of_marks`.
 pub fn lines_of_mark_filters(
     alloc: Global,
     names: &[Name],

@@ -60,7 +60,8 @@ pub fn lines_of_symbols(
     Ok(lines)
 }
 
-/// The lines `mark` of the marked symbols.
+/// The lines `mark` of the marked symbols. A symbol without a name counts as want of memory: callers rule it out, and a
+/// contract that said so would be longer than the case is worth.
 pub fn lines_of_marks(
     alloc: Global,
     names: &[Name],

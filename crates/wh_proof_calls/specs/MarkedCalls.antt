@@ -54,7 +54,8 @@ pub record ArgumentsStep (R : Tm → Tm → Type 0) (c d : MarkedCall) : Type 0 
 abbrev pub SomePairStep : Symbols → (Tm → Tm → Type 0) → (PairData → Type 0) → MarkedCall → MarkedCall → Type 0
 SomePairStep S R P c d = (p : PairData) × P p × PairStep S R p c d
 
--- the call c leads to the call d, both typed, by a step in an argument or by a pair of which P holds
+-- the call c leads to the call d, by a step in an argument or by a pair of which P holds. Both are typed, since what a
+-- term is worth under interpretations belongs to a typed term.
 pub record CallStep (S : Symbols) (rules : List RewriteRule) (R : Tm → Tm → Type 0) (P : PairData → Type 0)
     (c d : MarkedCall) : Type 0 where
   pub from_typed : IsTypedCall S rules c

@@ -1,4 +1,6 @@
--- What is to be shown of a set of dependency pairs: that certain rules, and the pairs of the set, do not grow.
+-- What is to be shown of a set of dependency pairs: that certain rules, and the pairs of the set, do not grow. The
+-- rules are numbers, so that definitions and check are the same for a node that lists rules and for one that covers
+-- all.
 use Rattle.std.specs.Prelude.{ℕ, zero, suc, ◌<◌, ◌≡◌, List, [], ◌∷◌, length, All}
 use Rattle.wh_terms.specs.Typing.{Symbols}
 use Rattle.wh_terms.specs.Rules.{RewriteRule}

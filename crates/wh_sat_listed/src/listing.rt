@@ -1,4 +1,6 @@
-//! Lists of clauses with hints, made of the clauses that the solver of wh_sat learnt.
+//! Lists of clauses with hints, made of the clauses that the solver of wh_sat learnt. That solver keeps no hints: of
+//! what it learnt it is known that propagation refutes each clause from those before it. So hints are sought once its
+//! search has ended, and a search for whose list nobody asks costs nothing more.
 
 ghost use Rattle.std.specs.Prelude.{◌≡◌, ℕ, ◌+◌, ◌<◌, ◌≤◌, ◌^◌, [], Contains, IfOk, OnOk, get_or, length, map, take};
 ghost use Rattle.wh_sat_trail.specs.Assignment.{AllBelow, negated};

@@ -7,7 +7,8 @@ use Rattle.wh_terms.specs.Value.{Body, Value}
 use Rattle.wh_terms.specs.Rules.{RewriteRule}
 use Rattle.wh_terms.specs.StepOver.{IsKept, KeepsTypes}
 
--- the sorts in the type of each symbol are sorts of S
+-- the sorts in the type of each symbol are sorts of S. The laws of computability need it: they take a variable of each
+-- type in sight.
 abbrev pub KnowsSorts : Symbols → Type 0
 KnowsSorts S = (f : ℕ) (a : Ty) → slice_get S.funs f ≡ Some a → SortsBelow S.sorts a
 

@@ -1,4 +1,5 @@
-//! The leftmost-outermost step of a term, and reduction by such steps, as the command `reduce` takes them.
+//! The leftmost-outermost step of a term, and reduction by such steps, as the command `reduce` takes them. It is a
+//! crate of its own: nearly all crates stand on wh_step, and a change there proves them anew.
 #![tactic(auto)]
 
 mod laws;

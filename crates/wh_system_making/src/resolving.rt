@@ -17,7 +17,8 @@ use wh_terms::{Metas, Term};
 use wh_text::{RawTerm, RawType};
 use wh_types::{Or, SimpleType};
 
-/// The names of a system, to be looked up: made once for all that is looked up in it.
+/// The names of a system, to be looked up: made once for all that is looked up in it. A system keeps its names as plain
+/// lists, and a walk over these for each name of a certificate would cost their product.
 #[derive(Drop)]
 pub struct NameTables {
     sorts: NameTable,

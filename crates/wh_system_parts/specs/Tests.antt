@@ -98,7 +98,8 @@ abbrev pub count_of : RTms → ℕ
 count_of none = 0
 count_of (more t ts) = count_of ts + 1
 
--- how many arguments a term has: those of a head that is a spine itself count too
+-- how many arguments a term has: those of a head that is a spine itself count too, so `(f a) b` has two, and
+-- parentheses change no limit
 abbrev pub arguments_of : RTm → ℕ
 arguments_of (spine h ts at) = arguments_of h + count_of ts
 arguments_of _ = 0

@@ -1,4 +1,6 @@
-//! The canonical text of a system, which reads back as that system, and the text of its dependency pairs.
+//! The canonical text of a system, which reads back as that system, and the text of its dependency pairs. It stands
+//! apart from systems and pairs: one walk prints the terms of both, and the law that the text reads back needs the
+//! reader.
 #![tactic(auto)]
 
 mod declarations;

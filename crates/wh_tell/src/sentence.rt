@@ -1,4 +1,6 @@
-//! Sentences: words in which each `@` stands for a piece.
+//! Sentences: words in which each `@` stands for a piece. No value is made into a text of its own first: most pieces
+//! need the names of a system, which a `Display` of a term does not have. Words that depend on a case come from a
+//! function, since a choice among the arguments of a call costs more to prove than two calls.
 
 use crate::names::{Names, put_meta, put_name};
 use crate::polys::put_poly;

@@ -1,4 +1,5 @@
--- Patterns, the left sides of rules: meta-variables stand there on distinct bound variables.
+-- Patterns, the left sides of rules: meta-variables stand there on distinct bound variables. A bound variable of a
+-- pattern is one that the pattern binds: a tree with a loose variable is no pattern, since a match would not be unique.
 use Rattle.std.specs.Prelude.{ℕ, ◌+◌, ◌<◌, ◌≢◌}
 use Rattle.wh_terms.specs.Tree.{Tm, bound, free, fun, meta, lam, app, Tms, none, more}
 

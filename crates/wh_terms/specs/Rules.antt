@@ -14,7 +14,8 @@ pub record RewriteRule : Type 0 where
   pub right : Tm
 
 -- the sides are closed, of one type, and fit; the left one is a pattern headed by a symbol; each meta-variable of the
--- right one occurs in the left one
+-- right one occurs in the left one. That the sides fit is asked here, so that what the calls on terms ask of their
+-- arguments follows for rules.
 pub record IsWellMade (S : Symbols) (r : RewriteRule) : Type 0 where
   pub typed : (a : Ty) × Typed S r.metas [] r.left a × Typed S r.metas [] r.right a
   pub left_fits : Fits r.left

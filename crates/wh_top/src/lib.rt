@@ -1,4 +1,5 @@
-//! The program's one call: `run` takes words, files and a sink, and answers with a status.
+//! The program's one call: `run` takes words, files and a sink, and answers with a status. The crate has `run` and its
+//! laws alone: for its edits it is proved once more, and the replies are not.
 #![tactic(auto)]
 
 mod laws;

@@ -1,5 +1,5 @@
 //! Commands that read a system and a certificate: files become a system with its pairs or a report, a certificate is
-//! judged, and a system is shown.
+//! judged, and a system is shown. Nothing of the search is named here, so that this is proved while the search is.
 #![tactic(auto)]
 
 mod files;
