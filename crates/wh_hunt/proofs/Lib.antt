@@ -1,3 +1,2 @@
-pub mod Asking
 pub mod Meaning
 pub mod Lines

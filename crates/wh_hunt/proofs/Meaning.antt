@@ -1,5 +1,5 @@
 -- What an output of the hunt means that begins with YES or with NO.
-use Rattle.std.proofs.Common.{◌≡◌, ℕ, inl, inr, Result, Ok, Err, List, ◌∷◌, ◌++◌, Option, Some, refl, sym, ap, ◌∙◌, arith}
+use Rattle.std.proofs.Common.{◌≡◌, ℕ, inl, inr, Result, Ok, Err, List, ◌∷◌, ◌++◌, Bool, Option, Some, refl, sym, ap, ◌∙◌, arith}
 use Rattle.std.specs.Prelude.{codes}
 use Rattle.wh_types.specs.Outcome.{MatchOr}
 use Rattle.wh_types.specs.declared.want.Or.{Or}
@@ -64,37 +64,37 @@ hunted_no system text rest d ps e reads (inr (inr ((c, is, spelled), first))) =
 
 module _ (s : Shelves) where
   -- the answers YES and NO of one line are none of a search
-  no_yes_line : (file : List ℕ) (work : ℕ) (status : Status) (text rest : List ℕ) → Hunts s file work status text → text ≡ 89 ∷ rest
+  no_yes_line : (file : List ℕ) (work : ℕ) (counts : Bool) (status : Status) (text rest : List ℕ) → Hunts s file work counts status text → text ≡ 89 ∷ rest
       → Told (s.held file) MeansYes
-  no_yes_line file work status text rest (inl (found, answered)) e = λ system held.
+  no_yes_line file work counts status text rest (inl (found, answered)) e = λ system held.
       let (within, d, ps, reads, has, is) = found system held in
       hunted_yes system text rest d ps e reads has is
-  no_yes_line file work status text rest (inr tells) e =
+  no_yes_line file work counts status text rest (inr tells) e =
       let (more, behind, text_is) = tells.told in
       let is : tells.report ≡ Yes = only_yes tells.report more rest (sym text_is ∙ e) in
       absurd (rw is at tells.stands)
 
-  no_no_line : (file : List ℕ) (work : ℕ) (status : Status) (text rest : List ℕ) → Hunts s file work status text → text ≡ 78 ∷ rest
+  no_no_line : (file : List ℕ) (work : ℕ) (counts : Bool) (status : Status) (text rest : List ℕ) → Hunts s file work counts status text → text ≡ 78 ∷ rest
       → Told (s.held file) (λ system. MeansNo system text)
-  no_no_line file work status text rest (inl (found, answered)) e = λ system held.
+  no_no_line file work counts status text rest (inl (found, answered)) e = λ system held.
       let (within, d, ps, reads, has, is) = found system held in
       hunted_no system text rest d ps e reads is
-  no_no_line file work status text rest (inr tells) e =
+  no_no_line file work counts status text rest (inr tells) e =
       let (more, behind, text_is) = tells.told in
       let is : tells.report ≡ No = only_no tells.report more rest (sym text_is ∙ e) in
       absurd (rw is at tells.stands)
 
   yes_asked : (words : List (List ℕ)) (status : Status) (text rest : List ℕ) → Answers s words status text → text ≡ 89 ∷ rest
       → Asked s words MeansYes
-  yes_asked words status text rest (served file work asks hunts) e = (file, work, asks, no_yes_line file work status text rest hunts e)
+  yes_asked words status text rest (served file work counts asks hunts) e = (file, work, counts, asks, no_yes_line file work counts status text rest hunts e)
   yes_asked words status text rest (misspoken none status_is text_is) e = absurd (not_byte 89 66 _ rest (λ w. omega arith) (sym text_is ∙ e))
-  yes_asked words status text rest (starved file work asks status_is text_is) e = absurd (not_byte 89 79 _ rest (λ w. omega arith) (sym text_is ∙ e))
+  yes_asked words status text rest (starved file work counts asks status_is text_is) e = absurd (not_byte 89 79 _ rest (λ w. omega arith) (sym text_is ∙ e))
 
   no_asked : (words : List (List ℕ)) (status : Status) (text rest : List ℕ) → Answers s words status text → text ≡ 78 ∷ rest
       → Asked s words (λ system. MeansNo system text)
-  no_asked words status text rest (served file work asks hunts) e = (file, work, asks, no_no_line file work status text rest hunts e)
+  no_asked words status text rest (served file work counts asks hunts) e = (file, work, counts, asks, no_no_line file work counts status text rest hunts e)
   no_asked words status text rest (misspoken none status_is text_is) e = absurd (not_byte 78 66 _ rest (λ w. omega arith) (sym text_is ∙ e))
-  no_asked words status text rest (starved file work asks status_is text_is) e = absurd (not_byte 78 79 _ rest (λ w. omega arith) (sym text_is ∙ e))
+  no_asked words status text rest (starved file work counts asks status_is text_is) e = absurd (not_byte 78 79 _ rest (λ w. omega arith) (sym text_is ∙ e))
 
   pub termination : (words : List (List ℕ)) (status : Status) (text : List ℕ) (old new : Option (List ℕ)) (f g : ℕ) (result : Status)
       → Answers s words status text → EndsWith old new f g status text result

@@ -1,5 +1,5 @@
 -- What a hunt answers, and what an output of it means that begins with YES or NO.
-use Rattle.std.specs.Prelude.{ℕ, ◌≡◌, ◌<◌, ◌⊎◌, ◌++◌, List, ◌∷◌, [], codes}
+use Rattle.std.specs.Prelude.{ℕ, ◌≡◌, ◌<◌, ◌⊎◌, ◌++◌, Bool, true, false, List, ◌∷◌, [], codes}
 use Rattle.std.specs.Fmt.{decimal}
 use Rattle.wh_system.specs.Systems.{SystemData}
 use Rattle.wh_pairs.specs.PairData.{PairData}
@@ -16,7 +16,7 @@ use Rattle.wh_top_naming.specs.declared.status.Status.TheVariants.{Answered, Bad
 use Rattle.wh_top_judging.specs.Outcomes.{Shelves, BeginsWith, IsNo, Told, ToldSystem}
 use Rattle.wh_top_replies.specs.Proving.{IsFoundText, StandsForSearch}
 use Rattle.wh_top_replies.specs.Run.{MeansNo}
-use Rattle.wh_hunt.specs.Words.{AsksHunt}
+use Rattle.wh_hunt_words.specs.Words.{AsksHunt}
 
 -- the bounds of the search that follows the hunt for loops: the usual ones of `prove`
 abbrev pub usual_options : Options
@@ -39,38 +39,49 @@ pub data IsEndOf (work : ℕ) : List ℕ → Type 0 where
   exhausted : (done : ℕ) → done < work → IsEndOf work (hunted_line done (codes "exhausted"))
   spent : IsEndOf work (hunted_line work (codes "spent"))
 
+-- how many certificates that the hunt found were refused by the check
+abbrev pub refused_line : ℕ → List ℕ
+refused_line refused = codes "hunted refused " ++ (decimal refused ++ 10 ∷ [])
+
+-- what stands behind a MAYBE: how the hunt ended, and how many certificates were refused, where this is told
+abbrev pub IsEndTold : ℕ → Bool → List ℕ → Type 0
+IsEndTold work false more = IsEndOf work more
+IsEndTold work true more = (line : List ℕ) × (refused : ℕ) × IsEndOf work line × (more ≡ line ++ refused_line refused)
+
 -- what stands behind the line of an answer: behind MAYBE how the hunt ended, and else nothing
-abbrev pub IsBehind : ℕ → Report → List ℕ → Type 0
-IsBehind work (answer.Maybe cause) more = IsEndOf work more
-IsBehind work report more = more ≡ []
+abbrev pub IsBehind : ℕ → Bool → Report → List ℕ → Type 0
+IsBehind work counts (answer.Maybe cause) more = IsEndTold work counts more
+IsBehind work counts report more = more ≡ []
 
 -- the text tells the answer and what stands behind it
-abbrev pub IsTold : ℕ → Report → List ℕ → Type 0
-IsTold work report text = (more : List ℕ) × IsBehind work report more × (text ≡ report_text report ++ more)
+abbrev pub IsTold : ℕ → Bool → Report → List ℕ → Type 0
+IsTold work counts report text = (more : List ℕ) × IsBehind work counts report more × (text ≡ report_text report ++ more)
 
 -- status and text tell an answer of the search, as `prove` would, and how the hunt ended
-pub record TellsHunted (s : Shelves) (file : List ℕ) (work : ℕ) (status : Status) (text : List ℕ) : Type 0 where
+pub record TellsHunted (s : Shelves) (file : List ℕ) (work : ℕ) (counts : Bool) (status : Status) (text : List ℕ) : Type 0 where
   pub report : Report
   pub stands : StandsForSearch s file usual_options report
   pub status_is : status ≡ status_of report
-  pub told : IsTold work report text
+  pub told : IsTold work counts report text
 
 -- the reply to a hunt: what was found, or an answer
-abbrev pub Hunts : Shelves → List ℕ → ℕ → Status → List ℕ → Type 0
-Hunts s file work status text = (ToldSystem (s.held file) (λ d ps. IsHunted d ps text) × (status ≡ Answered)) ⊎ TellsHunted s file work status text
+abbrev pub Hunts : Shelves → List ℕ → ℕ → Bool → Status → List ℕ → Type 0
+Hunts s file work counts status text =
+    (ToldSystem (s.held file) (λ d ps. IsHunted d ps text) × (status ≡ Answered)) ⊎ TellsHunted s file work counts status text
 
 -- a run with these words answers with this status and this text: the reply to a hunt; that the words are none of the
 -- program's; or want of memory
 pub data Answers (s : Shelves) (words : List (List ℕ)) (status : Status) (text : List ℕ) : Type 0 where
-  served : (file : List ℕ) (work : ℕ) → AsksHunt words file work → Hunts s file work status text → Answers s words status text
-  misspoken : ((file : List ℕ) (work : ℕ) → AsksHunt words file work → ⊥) → status ≡ BadWords
+  served : (file : List ℕ) (work : ℕ) (counts : Bool) → AsksHunt words file work counts → Hunts s file work counts status text
+      → Answers s words status text
+  misspoken : ((file : List ℕ) (work : ℕ) (counts : Bool) → AsksHunt words file work counts → ⊥) → status ≡ BadWords
       → text ≡ report_text answer.BadWords → Answers s words status text
-  starved : (file : List ℕ) (work : ℕ) → AsksHunt words file work → status ≡ NoMemory
+  starved : (file : List ℕ) (work : ℕ) (counts : Bool) → AsksHunt words file work counts → status ≡ NoMemory
       → text ≡ report_text answer.OutOfMemory → Answers s words status text
 
 -- the words ask for a hunt on a file, and P holds of its bytes, where they are told
 abbrev pub Asked : Shelves → List (List ℕ) → (List ℕ → Type 0) → Type 0
-Asked s words P = (file : List ℕ) × (work : ℕ) × AsksHunt words file work × Told (s.held file) P
+Asked s words P = (file : List ℕ) × (work : ℕ) × (counts : Bool) × AsksHunt words file work counts × Told (s.held file) P
 
 -- what a text that begins with NO says: what NO means of the system file and of the text itself
 abbrev pub SaysNo : Shelves → List (List ℕ) → List ℕ → Type 0

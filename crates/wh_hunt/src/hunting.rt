@@ -21,13 +21,22 @@ use wh_top_judging::{CERTIFICATE_LIMIT, Problem, problem_in, weigh};
 use wh_top_replies::found_text;
 use wh_types::{Bytes, Or};
 
-/// The text of a loop or of a proof for the system in the file, or why there is neither. What the hunt takes is counted
-/// in `work`.
+/// What a hunt may still do, and what it did.
+#[derive(Drop)]
+pub struct Tally {
+    /// The work that is left.
+    pub work: Work,
+    /// How many certificates were found that a check does not accept.
+    pub refused: u32,
+}
+
+/// The text of a loop or of a proof for the system in the file, or why there is neither. What the hunt takes and does is
+/// counted in `tally`.
 pub fn hunt_file<S: Shelf>(
     alloc: Global,
     shelf: &mut S,
     file: &str,
-    work: &mut Work,
+    tally: &mut Tally,
 ) -> Result<Bytes, Or<Report>>
     ensures found { MatchOr result
         (λ text. ToldSystem (S.held shelf.old file.now) (λ d ps. IsHunted d ps text))
@@ -35,7 +44,7 @@ pub fn hunt_file<S: Shelf>(
     ensures kept { (other : List ℕ) → S.held shelf.new other ≡ S.held shelf.old other }
 {
     let problem = problem_in(alloc, shelf, file)?;
-    if let Some(text) = loop_text(alloc, &problem, work)? {
+    if let Some(text) = loop_text(alloc, &problem, tally)? {
         return Ok(text);
     }
     let options = Options {
@@ -47,18 +56,23 @@ pub fn hunt_file<S: Shelf>(
 }
 
 // The text of a loop in the graph of calls that a check accepts. One that it does not accept is dropped.
-fn loop_text(alloc: Global, problem: &Problem, work: &mut Work) -> Result<Option<Bytes>, AllocError>
+fn loop_text(
+    alloc: Global,
+    problem: &Problem,
+    tally: &mut Tally,
+) -> Result<Option<Bytes>, AllocError>
     requires { HasPairs (system_data problem.now.system) (pairs_data problem.now.pairs) }
     ensures { IfOk result (λ found. IfSome found (λ text.
         IsLoopOf (system_data problem.now.system) (pairs_data problem.now.pairs) text × BeginsWith (codes "NO") text)) }
 {
-    let Some(certificate) = hunt_cycles(alloc, &problem.system, work)? else {
+    let Some(certificate) = hunt_cycles(alloc, &problem.system, &mut tally.work)? else {
         return Ok(None);
     };
     let text = print_certificate(alloc, &Certificate::No(certificate))?;
     if is_accepted(alloc, problem, text.as_slice())? {
         Ok(Some(text))
     } else {
+        tally.refused = tally.refused.saturating_add(1);
         Ok(None)
     }
 }

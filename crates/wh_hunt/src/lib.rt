@@ -4,6 +4,5 @@
 mod hunting;
 mod program;
 mod telling;
-mod words;
 
 pub use program::{report_no_memory, run};

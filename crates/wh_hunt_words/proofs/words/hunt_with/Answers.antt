@@ -1,6 +1,6 @@
 use Rattle.std.proofs.Common.{◌≡◌, arith, sym, ◌∙◌}
 use Rattle.std.proofs.lemmas.Fmt.{decimal_injective}
-use Rattle.wh_hunt.proofs.words.hunt_with.Goals as goal
+use Rattle.wh_hunt_words.proofs.words.hunt_with.Goals as goal
 
 pub returns-then-work-gt-MOST_WORK : goal.returns-then-work-gt-MOST_WORK
 returns-then-work-gt-MOST_WORK c = λ n plain sets.
