@@ -70,7 +70,8 @@ def renamed(system, number, shared, taken):
         while new[name] in taken:
             new[name] += "'"
         taken.add(new[name])
-    return System(system.title, [[item[0]] + [new.get(token, token) for token in item[1:]] for item in system.items])
+    items = [[item[0]] + [new.get(token, token) for token in item[1:]] for item in system.items]
+    return System(system.title, items)
 
 
 def union(systems):
@@ -114,14 +115,17 @@ def main():
     form = argparse.RawDescriptionHelpFormatter
     words = argparse.ArgumentParser(description=__doc__, formatter_class=form)
     words.add_argument("files", metavar="FILE", nargs="+", type=pathlib.Path)
-    words.add_argument("--copies", metavar="N", type=int, default=1, help="how often each file is taken; once if not given")
+    words.add_argument("--copies", metavar="N", type=int, default=1, help="how often each file is taken; else once")
     words.add_argument("--time", action="store_true", help="run `prove` on each system and on the union")
     words.add_argument("--program", metavar="PATH", default=PROGRAM, help="with --time: another program than wanda")
     given = words.parse_args()
     texts = [file.read_text(encoding="utf-8") for file in given.files]
     systems = [read_system(str(file), text) for file, text in zip(given.files, texts)]
     whole = union(systems * given.copies)
-    print(time_of(given.program, texts, given.copies, whole) if given.time else whole, end="\n" if given.time else "")
+    if given.time:
+        print(time_of(given.program, texts, given.copies, whole))
+    else:
+        print(whole, end="")
 
 
 if __name__ == "__main__":
