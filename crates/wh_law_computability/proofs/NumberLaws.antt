@@ -1,4 +1,5 @@
--- Computability by three numbers is the family's: by induction on ranks, and within a rank on the type and on the bound.
+-- Computability by three numbers is the family's: by induction on ranks, and within a rank on the type and on the
+-- bound.
 use Rattle.std.proofs.Common.{◌≡◌, ℕ, zero, suc, ◌<◌, ◌≤◌, ◌↔◌, ltb, List, [], ◌∷◌, ◌⊎◌, inl, inr, length, refl, sym, subst, arith, lt-ltb, le-ltb}
 use Rattle.wh_types.specs.Ty.{Ty, sort, ◌⇒◌, SortsBelow}
 use Rattle.wh_terms.specs.Tree.{Tm, fun, free, app, spine}

@@ -7,3 +7,4 @@ pub mod SubtermMeasures
 pub mod PolyMeasures
 pub mod NodeMeasures
 pub mod Certificates
+pub mod ShortLists

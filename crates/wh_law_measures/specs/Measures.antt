@@ -66,7 +66,7 @@ abbrev pub IsBlocksMeasure : (S : Symbols) (rules : List RewriteRule) → List P
 IsBlocksMeasure S rules pairs parts children f = (c : MarkedCall) (good : IsBoundedCall S rules c)
     → IsBlocksList S rules pairs parts children c good (f c good)
 
--- a node `poly` that covers all rules: what the call is worth by the interpretations, with free variables read as 0, and
--- behind it the list by the node's child
+-- a node `poly` that covers all rules: what the call is worth by the interpretations, with free variables read as 0,
+-- and behind it the list by the node's child
 abbrev pub IsPolyMeasure : (S : Symbols) (rules : List RewriteRule) → ReadingsData → (child f : Measure S rules) → Type 0
 IsPolyMeasure S rules R child f = (c : MarkedCall) (good : IsBoundedCall S rules c) → f c good ≡ worth_of S rules R c ∷ child c good

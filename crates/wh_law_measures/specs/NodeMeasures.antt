@@ -15,15 +15,15 @@ use Rattle.wh_proof_calls.specs.MarkedCalls.{MarkedCall}
 use Rattle.wh_law_projection.specs.LongestSequences.{IsBoundedCall}
 use Rattle.wh_law_measures.specs.Measures.{Measure, Measures, IsAloneMeasure, IsSubtermMeasure, IsBlocksMeasure, IsPolyMeasure}
 
--- a node of which a measure is told here: any but one of interpretations that covers only listed rules, and one of a path
--- order
+-- a node of which a measure is told here: any but one of interpretations that covers only listed rules, and one of a
+-- path order
 abbrev pub IsCounted : List RewriteRule → Node → Type 0
 IsCounted rules (poly covered R E) = covered ≡ numbers_from 0 (length rules)
 IsCounted rules (order D E) = ⊥
 IsCounted rules _ = Unit {0}
 
--- `AreMeasures S rules pairs sets nodes fs`: the nodes, in preorder, give each of the sets its measure, by the kind of the
--- node that proves the set and by the measures of what that node leaves (Kop 2012; the form is ours)
+-- `AreMeasures S rules pairs sets nodes fs`: the nodes, in preorder, give each of the sets its measure, by the kind of
+-- the node that proves the set and by the measures of what that node leaves (Kop 2012; the form is ours)
 pub data AreMeasures (S : Symbols) (rules : List RewriteRule) (pairs : List PairData)
     : List (List ℕ) → List Node → List (Measure S rules) → Type 0 where
   no_measures : AreMeasures S rules pairs [] [] []
@@ -55,9 +55,9 @@ pub data AreLeft (S : Symbols) (rules : List RewriteRule) (pairs : List PairData
   one_before : {set : List ℕ} {left sets more : List (List ℕ)} {node : Node} {nodes : List Node} → Leaves S rules pairs set node left
       → AreLeft S rules pairs (left ++ sets) nodes more → AreLeft S rules pairs (set ∷ sets) (node ∷ nodes) more
 
--- A node of a proof of the set `all` has a measure: its set is the first one that the nodes before leave, no step raises
--- the measure and each pair of the node's set lowers it, and it is what the node's kind says, from the measures by the
--- nodes below.
+-- A node of a proof of the set `all` has a measure: its set is the first one that the nodes before leave, no step
+-- raises the measure and each pair of the node's set lowers it, and it is what the node's kind says, from the measures
+-- by the nodes below.
 pub record HasMeasure (S : Symbols) (rules : List RewriteRule) (pairs : List PairData) (all : List ℕ) (before : List Node) (node : Node)
     (after : List Node) : Type 0 where
   pub set : List ℕ

@@ -5,6 +5,6 @@
 mod measures;
 
 pub use measures::{
-    computable_arguments_are_bounded, nodes_measure_calls,
-    nodes_of_valid_certificates_measure_calls, reaching_is_decided,
+    computable_arguments_are_bounded, measures_have_short_lists, nodes_measure_calls,
+    nodes_of_valid_certificates_measure_calls, reaching_is_decided, short_lists_end,
 };
