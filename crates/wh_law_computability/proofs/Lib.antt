@@ -1,0 +1,2 @@
+pub mod SequenceLaws
+pub mod NumberLaws

@@ -1,0 +1,10 @@
+pub mod Lexicographic
+pub mod Matches
+pub mod Reached
+pub mod AloneMeasures
+pub mod BlocksMeasures
+pub mod SubtermMeasures
+pub mod PolyMeasures
+pub mod NodeMeasures
+pub mod Certificates
+pub mod ShortLists

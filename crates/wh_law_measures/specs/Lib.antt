@@ -1,0 +1,4 @@
+pub mod Lexicographic
+pub mod Reaching
+pub mod Measures
+pub mod NodeMeasures
