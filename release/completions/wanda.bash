@@ -56,7 +56,9 @@ _wanda_companion() {
   place=$(_wanda_place "$first")
   case $name:$current in
     explain:-*) _wanda_words "$current" '--lint --graph --help --version' ;;
-    all:-*) _wanda_words "$current" '--jobs --seconds --out --proved --one --engine --sshlogin --at --help --version' ;;
+    all:-*)
+      _wanda_words "$current" '--hunt --jobs --seconds --out --proved --one --engine --sshlogin --at --help --version' ;;
+    hunt:-*) _wanda_words "$current" '--work --out --stats --help --version' ;;
     release:-*) _wanda_words "$current" '--gate --help --version' ;;
     build:-*) _wanda_words "$current" '--unproved --help --version' ;;
     test:-*) _wanda_words "$current" '--no-gate --list --help --version' ;;
@@ -68,7 +70,7 @@ _wanda_companion() {
     hunt:* | page:*) _wanda_files "$current" afs ;;
     fun:*) _wanda_files "$current" hs ;;
     all:* | release:*) _wanda_files "$current" ;;
-    build:*) _wanda_words "$current" 'wanda explain' ;;
+    build:*) _wanda_words "$current" 'wanda explain hunt' ;;
   esac
 }
 
