@@ -2,25 +2,38 @@
 """How long `prove` takes on random systems with binders in binders and functional variables, and what it answers.
 
     bench/random_systems.py [--program PATH] [--count N] [--first SEED] [--seconds S] [--jobs N]
+    bench/random_systems.py --hunt [--hunter PATH] [--work N] ..
     bench/random_systems.py --show SEED
 
 A system is made of its seed alone, so a slow one can be looked at again. Prints how often each answer came, the median, the
 99th of 100 and the sum of the seconds of a processor, and the slowest three by their seeds. A run that takes longer than
 the bound (60 seconds by the clock) is ended and counted as such.
+
+With `--hunt` it is `wanda-hunt` that runs, and `check` on each certificate that it prints. The table then has how many
+systems have a loop or a proof, and on how many the hunt was exhausted or spent, each with the seconds of a processor
+(the median, the 99th of 100 and the most). Behind it stands what there should be none of: certificates that `check`
+refuses, crashes, runs that were ended, and runs of more than 15 seconds of a processor, by their seeds; the status is
+then 1.
 """
 import argparse
 import collections
 import concurrent.futures
+import contextlib
 import os
 import pathlib
 import random
 import signal
 import statistics
 import subprocess
+import sys
 import tempfile
 import threading
 
-PROGRAM = pathlib.Path(__file__).resolve().parent.parent / "crates" / "wanda" / "out" / "wanda"
+CRATES = pathlib.Path(__file__).resolve().parent.parent / "crates"
+PROGRAM = CRATES / "wanda" / "out" / "wanda"
+HUNTER = CRATES / "wanda_hunt" / "out" / "wanda_hunt"
+# more seconds than any hunt should take
+LONG = 15
 SORT = "o"
 
 
@@ -148,31 +161,92 @@ def strip(text):
     return text[1:-1]
 
 
-def prove(program, seed, bound):
-    """The first word or words of the answer for that seed's system, and the seconds of a processor that it took."""
-    with tempfile.NamedTemporaryFile("w", suffix=".afs") as file, tempfile.TemporaryFile("w+") as output:
-        file.write(Maker(seed).system())
-        file.flush()
-        process = subprocess.Popen([program, "prove", file.name], stdout=output)
+def run(words, bound):
+    """The status of a command, what it prints, and the seconds of a processor that it took."""
+    with tempfile.TemporaryFile("w+") as output:
+        process = subprocess.Popen(words, stdout=output)
         ending = threading.Timer(bound, process.kill)
         ending.start()
         _, status, used = os.wait4(process.pid, 0)
         ending.cancel()
         process.returncode = os.waitstatus_to_exitcode(status)
         output.seek(0)
-        words = output.read().split()
-    if process.returncode == -signal.SIGKILL:
-        answer = "too long"
-    elif words:
-        answer = " ".join(words[:2]) if words[0] == "MAYBE" else words[0]
-    else:
-        answer = f"status {process.returncode}"
-    return seed, answer, used.ru_utime + used.ru_stime
+        return process.returncode, output.read(), used.ru_utime + used.ru_stime
+
+
+@contextlib.contextmanager
+def system_of(seed):
+    """A file with that seed's system."""
+    with tempfile.NamedTemporaryFile("w", suffix=".afs") as file:
+        file.write(Maker(seed).system())
+        file.flush()
+        yield file.name
+
+
+def answer_of(status, output):
+    """The first word or words of an answer."""
+    words = output.split()
+    if status == -signal.SIGKILL:
+        return "too long"
+    if not words:
+        return f"status {status}"
+    return " ".join(words[:2]) if words[0] == "MAYBE" else words[0]
+
+
+def prove(given, seed):
+    """The answer for that seed's system, and the seconds that it took."""
+    with system_of(seed) as file:
+        status, output, seconds = run([given.program, "prove", file], given.seconds)
+    return seed, answer_of(status, output), seconds
+
+
+def hunt(given, seed):
+    """How the hunt ended on that seed's system, and the seconds that it took; a proof counts where `check` accepts it."""
+    with system_of(seed) as file, tempfile.NamedTemporaryFile("w") as certificate:
+        status, output, seconds = run([given.hunter, file, "--work", str(given.work)], given.seconds)
+        answer = answer_of(status, output)
+        if answer in ("YES", "NO"):
+            certificate.write(output)
+            certificate.flush()
+            checked = run([given.program, "check", file, certificate.name], given.seconds)[1].strip()
+            return seed, answer if checked == answer else f"refused: {checked}", seconds
+    last = output.splitlines()[-1:]
+    if answer.startswith("MAYBE") and status == 0 and last[0].startswith("hunted loops "):
+        return seed, last[0].split()[-1], seconds
+    return seed, answer, seconds
+
+
+def spread(took):
+    """The median of seconds, the 99th of 100 and the most."""
+    took = sorted(took)
+    return statistics.median(took), took[len(took) * 99 // 100], took[-1]
+
+
+def tell_hunt(found):
+    """Prints the table of a hunt and what went wrong, and returns the status."""
+    kinds = {"NO": "found a loop", "YES": "found a proof", "exhausted": "exhausted", "spent": "spent"}
+    print(f"{'':15}{'systems':>8}{'median':>10}{'99 of 100':>11}{'most':>10}   seconds of a processor")
+    for kind, name in [*kinds.items(), (None, "all")]:
+        took = [seconds for _, answer, seconds in found if kind in (None, answer)]
+        if took:
+            median, nearly_all, most = spread(took)
+            print(f"{name:15}{len(took):8}{median:10.3f}{nearly_all:11.3f}{most:10.3f}")
+    wrong = [it for it in found if it[1] not in kinds or it[2] > LONG]
+    refused = sum(it[1].startswith("refused") for it in wrong)
+    long = sum(it[2] > LONG for it in wrong)
+    ended = sum(it[1] not in kinds for it in wrong) - refused
+    print(f"certificates refused {refused}, crashes and ended runs {ended}, runs above {LONG} s {long}")
+    for seed, answer, seconds in wrong:
+        print(f"seed {seed}: {answer}, {seconds:.2f} s")
+    return int(bool(wrong))
 
 
 def main():
     words = argparse.ArgumentParser(description=__doc__.splitlines()[0])
     words.add_argument("--program", default=PROGRAM)
+    words.add_argument("--hunt", action="store_true")
+    words.add_argument("--hunter", default=HUNTER)
+    words.add_argument("--work", type=int, default=10_000_000)
     words.add_argument("--count", type=int, default=1000)
     words.add_argument("--first", type=int, default=1)
     words.add_argument("--seconds", type=float, default=60)
@@ -184,11 +258,13 @@ def main():
         return
     seeds = range(given.first, given.first + given.count)
     with concurrent.futures.ThreadPoolExecutor(given.jobs) as pool:
-        found = list(pool.map(lambda seed: prove(given.program, seed, given.seconds), seeds))
+        found = list(pool.map(lambda seed: (hunt if given.hunt else prove)(given, seed), seeds))
+    if given.hunt:
+        sys.exit(tell_hunt(found))
     for answer, times in sorted(collections.Counter(it[1] for it in found).items(), key=lambda it: -it[1]):
         print(f"{times:6} {answer}")
-    took = sorted(it[2] for it in found)
-    print(f"median {statistics.median(took):.3f} s, 99th of 100 {took[len(took) * 99 // 100]:.3f} s, all {sum(took):.1f} s")
+    median, nearly_all, _ = spread([it[2] for it in found])
+    print(f"median {median:.3f} s, 99th of 100 {nearly_all:.3f} s, all {sum(it[2] for it in found):.1f} s")
     for seed, answer, seconds in sorted(found, key=lambda it: -it[2])[:3]:
         print(f"seed {seed}: {answer}, {seconds:.2f} s")
 

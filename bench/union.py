@@ -108,7 +108,8 @@ def time_of(program, texts, copies, whole):
     answers = collections.Counter(word for word, _ in alone)
     listed = ", ".join(f"{word} {answers[word]}" for word in sorted(answers))
     rules = len(re.findall(r"^rule\b", whole, re.M))
-    return f"{rules} rules: alone {total:.3f} s ({listed}), union {seconds:.3f} s ({answer}), {seconds / total:.2f} times"
+    times = f"{seconds / total:.2f} times"
+    return f"{rules} rules: alone {total:.3f} s ({listed}), union {seconds:.3f} s ({answer}), {times}"
 
 
 def main():
