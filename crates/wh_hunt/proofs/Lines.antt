@@ -17,7 +17,8 @@ end_if r given old new more is joins = on_ok r _ _ (λ e. (more, is, e)) joins
 pub told_with_count : (given refused : ℕ) (counts : Bool) (old line middle new : List ℕ) → counts ≡ true → IsEndOf given line
     → middle ≡ old ++ line → new ≡ middle ++ refused_line refused
     → (more : List ℕ) × IsEndTold given counts more × (new ≡ old ++ more)
-told_with_count given refused counts old line middle new asked is first then_new =
-    (line ++ refused_line refused,
-    subst (λ b. IsEndTold given b (line ++ refused_line refused)) (sym asked) (line, refused, is, refl),
-    then_new ∙ ap (λ t. t ++ refused_line refused) first ∙ append_assoc old line (refused_line refused))
+told_with_count given refused counts old line middle new asked is first then_new = (
+  line ++ refused_line refused,
+  subst (λ b. IsEndTold given b (line ++ refused_line refused)) (sym asked) (line, refused, is, refl),
+  then_new ∙ ap (λ t. t ++ refused_line refused) first ∙ append_assoc old line (refused_line refused),
+)
