@@ -88,10 +88,10 @@ module _ (S : Symbols) (rules : List RewriteRule) (pairs : List PairData) where
 
 pub certificate_measures : (d : SystemData) (ps : List PairData) → IsWellMadeSystem d → ArePairs (candidates d.symbols d.rules) ps
     → (all : List ℕ) (nodes before after : List Node) (node : Node) → Proves d.symbols d.rules ps (all ∷ []) nodes
-    → nodes ≡ before ++ (node ∷ after) → All (IsCounted d.rules) (node ∷ after) → HasMeasure d.symbols d.rules ps all before node after
+    → nodes ≡ before ++ (node ∷ after) → All IsCounted (node ∷ after) → HasMeasure d.symbols d.rules ps all before node after
 certificate_measures d ps made pairs all nodes before after node proves e counted =
     let typed : HaveTypedSides d.symbols d.rules ps = λ marks p found. pair_sides d made ps pairs marks p found in
     let (set, more, is, on) = node_reached d.symbols d.rules ps proves before node after e in
     let (fs, are, each) = proofs_measure d.symbols d.rules ps made.rules typed (pattern_sides d made ps pairs) on
-    (recursion_from_All (IsCounted d.rules) (node ∷ after) counted) in
+    (recursion_from_All IsCounted (node ∷ after) counted) in
     first_measured d.symbols d.rules ps all before node after set more is on fs are each

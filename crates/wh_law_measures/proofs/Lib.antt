@@ -5,6 +5,7 @@ pub mod AloneMeasures
 pub mod BlocksMeasures
 pub mod SubtermMeasures
 pub mod PolyMeasures
+pub mod ListedMeasures
 pub mod NodeMeasures
 pub mod Certificates
 pub mod ShortLists

@@ -35,9 +35,6 @@ module _ (S : Symbols) (rules : List RewriteRule) (pairs : List PairData) (set c
   sides : (p : PairData) → InSet pairs set p → HasMarkedSides S rules R.marks p
   sides p inside = sides_of_set pairs set R.marks is.readings.marked S rules typed p inside
 
-  worth : MarkedCall → ℕ
-  worth = worth_of S rules R
-
   -- the line of a pair, which is kept or dropped
   by_line : (n : ℕ) (p : PairData) (ms : List Transfer) (strict : Bool) (c d : MarkedCall) (good : IsBoundedCall S rules c)
       (also : IsBoundedCall S rules d) → Contains set n → slice_get pairs n ≡ Some p → IsDropped E.drop n strict

@@ -11,7 +11,7 @@ use Rattle.wh_proof_calls.specs.MarkedCalls.{MarkedCall}
 use Rattle.wh_law_projection.specs.LongestSequences.{IsBoundedCall}
 use Rattle.wh_law_measures.specs.Lexicographic.{IsLess, LeadsDown}
 use Rattle.wh_law_measures.specs.Measures.{Measure, IsBlocksList}
-use Rattle.wh_law_measures.specs.NodeMeasures.{AreMeasures, no_measures, of_done, of_alone, of_blocks, of_subterm, of_poly}
+use Rattle.wh_law_measures.specs.NodeMeasures.{AreMeasures, no_measures, of_done, of_alone, of_blocks, of_subterm, of_poly, of_listed}
 
 -- no list goes down for ever
 
@@ -106,4 +106,9 @@ module _ (S : Symbols) (rules : List RewriteRule) (pairs : List PairData) where
       let all = measures_short are in
       more_short (length nodes) (suc (length nodes)) f fs (omega arith)
       (λ c good. headed_short (length nodes) (worth_of S rules R c) (f c good) (child c good) (is c good) (all child (at_head fs child) c good))
+      (rest_short (length nodes) child fs all)
+  measures_short (of_listed {nodes = nodes} {fs = fs} {child = child} {f = f} kept listed is are) =
+      let all = measures_short are in
+      more_short (length nodes) (suc (length nodes)) f fs (omega arith)
+      (λ c good. headed_short (length nodes) (is c good).0 (f c good) (child c good) (is c good).2 (all child (at_head fs child) c good))
       (rest_short (length nodes) child fs all)

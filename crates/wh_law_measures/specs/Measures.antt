@@ -11,6 +11,7 @@ use Rattle.wh_polycheck.specs.Readings.{ReadingsData}
 use Rattle.wh_poly_meaning.specs.PairCovers.{worth_of}
 use Rattle.wh_proof_calls.specs.MarkedCalls.{MarkedCall, PairLeads, ArgumentsStep}
 use Rattle.wh_law_projection.specs.LongestSequences.{IsProjectedLength, IsBoundedCall}
+use Rattle.wh_law_values.specs.Values.{IsCallNumber}
 use Rattle.wh_law_measures.specs.Lexicographic.{IsLess, IsNotMore}
 use Rattle.wh_law_measures.specs.Reaching.{CanReachSome}
 
@@ -70,3 +71,9 @@ IsBlocksMeasure S rules pairs parts children f = (c : MarkedCall) (good : IsBoun
 -- and behind it the list by the node's child
 abbrev pub IsPolyMeasure : (S : Symbols) (rules : List RewriteRule) → ReadingsData → (child f : Measure S rules) → Type 0
 IsPolyMeasure S rules R child f = (c : MarkedCall) (good : IsBoundedCall S rules c) → f c good ≡ worth_of S rules R c ∷ child c good
+
+-- a node `poly` that covers only listed rules: the number of the call, what the interpretation gives at the values of
+-- its arguments, and behind it the list by the node's child
+abbrev pub IsListedMeasure : (S : Symbols) (rules : List RewriteRule) → List ℕ → ReadingsData → (child f : Measure S rules) → Type 0
+IsListedMeasure S rules listed R child f = (c : MarkedCall) (good : IsBoundedCall S rules c)
+    → (n : ℕ) × IsCallNumber S rules listed R c n × (f c good ≡ n ∷ child c good)

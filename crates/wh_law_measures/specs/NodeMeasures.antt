@@ -13,14 +13,12 @@ use Rattle.wh_proof.specs.Nodes.{Node, done, alone, blocks, subterm, poly, order
 use Rattle.wh_proof.specs.Proves.{Proves}
 use Rattle.wh_proof_calls.specs.MarkedCalls.{MarkedCall}
 use Rattle.wh_law_projection.specs.LongestSequences.{IsBoundedCall}
-use Rattle.wh_law_measures.specs.Measures.{Measure, Measures, IsAloneMeasure, IsSubtermMeasure, IsBlocksMeasure, IsPolyMeasure}
+use Rattle.wh_law_measures.specs.Measures.{Measure, Measures, IsAloneMeasure, IsSubtermMeasure, IsBlocksMeasure, IsPolyMeasure, IsListedMeasure}
 
--- a node of which a measure is told here: any but one of interpretations that covers only listed rules, and one of a
--- path order
-abbrev pub IsCounted : List RewriteRule → Node → Type 0
-IsCounted rules (poly covered R E) = covered ≡ numbers_from 0 (length rules)
-IsCounted rules (order D E) = ⊥
-IsCounted rules _ = Unit {0}
+-- a node of which a measure is told here: any but one of a path order
+abbrev pub IsCounted : Node → Type 0
+IsCounted (order D E) = ⊥
+IsCounted _ = Unit {0}
 
 -- `AreMeasures S rules pairs sets nodes fs`: the nodes, in preorder, give each of the sets its measure, by the kind of
 -- the node that proves the set and by the measures of what that node leaves (Kop 2012; the form is ours)
@@ -45,6 +43,11 @@ pub data AreMeasures (S : Symbols) (rules : List RewriteRule) (pairs : List Pair
   of_poly : {set covered rest : List ℕ} {R : ReadingsData} {E : Evidence (List Transfer)} {sets : List (List ℕ)}
       {nodes : List Node} {fs : List (Measure S rules)} {child f : Measure S rules} → IsSetOf (IsKept set E.drop) rest
       → covered ≡ numbers_from 0 (length rules) → IsPolyMeasure S rules R child f
+      → AreMeasures S rules pairs (rest ∷ sets) nodes (child ∷ fs)
+      → AreMeasures S rules pairs (set ∷ sets) (poly covered R E ∷ nodes) (f ∷ fs)
+  of_listed : {set covered rest : List ℕ} {R : ReadingsData} {E : Evidence (List Transfer)} {sets : List (List ℕ)}
+      {nodes : List Node} {fs : List (Measure S rules)} {child f : Measure S rules} → IsSetOf (IsKept set E.drop) rest
+      → (covered ≡ numbers_from 0 (length rules) → ⊥) → IsListedMeasure S rules covered R child f
       → AreMeasures S rules pairs (rest ∷ sets) nodes (child ∷ fs)
       → AreMeasures S rules pairs (set ∷ sets) (poly covered R E ∷ nodes) (f ∷ fs)
 

@@ -50,16 +50,15 @@ pub fn reaching_is_decided()
 pub fn nodes_measure_calls()
     ensures { (S : Symbols) (rules : List RewriteRule) (pairs : List PairData) (sets : List (List ℕ)) (nodes : List Node)
         → AreWellMade S rules → HaveTypedSides S rules pairs → HavePatternSides S pairs → Proves S rules pairs sets nodes
-        → All (IsCounted rules) nodes
+        → All IsCounted nodes
         → (fs : List (Measure S rules)) × AreMeasures S rules pairs sets nodes fs × EachMeasures S rules pairs sets fs }
 {}
 
-/// Each node of a valid certificate has such a measure for its set, where from the node on none is of a path order, and
-/// none of interpretations that cover only listed rules.
+/// Each node of a valid certificate has such a measure for its set, where from the node on none is of a path order.
 pub fn nodes_of_valid_certificates_measure_calls()
     ensures { (d : SystemData) (ps : List PairData) (ranks : List ℕ) (count : ℕ) (lines : List w.Node) (before after : List Node)
         (node : Node) (valid : IsValidYes d ps ranks count lines) → IsWellMadeSystem d → ArePairs (candidates d.symbols d.rules) ps
-        → valid.nodes ≡ before ++ (node ∷ after) → All (IsCounted d.rules) (node ∷ after)
+        → valid.nodes ≡ before ++ (node ∷ after) → All IsCounted (node ∷ after)
         → HasMeasure d.symbols d.rules ps valid.set before node after }
 {}
 

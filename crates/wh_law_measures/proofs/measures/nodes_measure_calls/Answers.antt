@@ -6,4 +6,4 @@ use Rattle.wh_law_measures.proofs.measures.nodes_measure_calls.Goals as goal
 
 pub returns : goal.returns
 returns k S rules pairs sets nodes made typed patterns proves counted =
-    proofs_measure S rules pairs made typed patterns proves (recursion_from_All (IsCounted rules) nodes counted)
+    proofs_measure S rules pairs made typed patterns proves (recursion_from_All IsCounted nodes counted)
