@@ -198,6 +198,39 @@ VALUES = [
           where infixr 3 <->
                 a <-> b = a - b
         """, [("fold (-) 0 [5, 3, 1]", "3"), ("apply (-) 3 1", "2"), ("(L 5 :+ L 2) -.- 1", "2"), ("L 5 -.- 1", "1"), ("minus' 3", "1")]),
+    ("fixities in scope", """
+        infixl 6 `cmp`
+        a `cmp` b = a * 2 + b
+        right x = x <> x <> 1 where { infixr 3 <>; a <> b = a * 2 + b }
+        left x = x <> x <> 1 where a <> b = a * 2 + b
+        bound (+) x = x + 1 * 2
+        before x | 2 `cmp` 1 == x = 2 `cmp` 1 `cmp` x
+                 | otherwise = 0
+          where infixr 5 `cmp`
+                a `cmp` b = a - b
+        parameter cmp x = x `cmp` 1 * 2
+        sameLevel x = x +++ x -|- 1
+          where infixr 5 +++, -|-
+                a +++ b = a + b
+                a -|- b = a - b
+        inLet x = (let infixl 1 -.; a -. b = a - b in x + 1 -. 1 + 1) `cmp` 1
+        guarded x | let { infixr 5 -.; a -. b = a - b }, y <- x -. 2 -. 1 = y
+        section x = (1 -. 2 .-) x
+          where { infixl 4 .-; infixl 5 -.; a .- b = a * 2 + b; a -. b = a + b }
+        shadowed x = go x + (x `op` 2 `op` 3)
+          where infixr 5 `op`
+                op a b = a - b
+                go y = y `op` 3 `op` 1 where op a b = a - b
+        """, [("1 `cmp` 2 `cmp` 3", "11"), ("right 2", "9"), ("left 2", "13"), ("bound (-) 3", "4"), ("before 1", "2"),
+              ("parameter (-) 3", "4"), ("sameLevel 3", "5"), ("inLet 5", "9"), ("guarded 5", "4"), ("section 4", "10"),
+              ("shadowed 6", "8")]),
+    ("any fields", """
+        data T = A | B Nat Bool | C T
+        f B {} = 1
+        f (C A {}) = 2
+        f (C (B{})) = 3
+        f _ = 4
+        """, [("map f [A, B 0 True, C A, C (B 1 False), C (C A)]", "[4, 1, 2, 3, 4]")]),
     ("classes", """
         data S = P | Q Nat | R S [Nat] deriving (Eq, Ord, Show)
         data Pair' a b = Pair' a b deriving (Eq, Ord)
@@ -324,6 +357,7 @@ REFUSALS = [
     ("class", "class C a where\n  c :: a", "4:1", "classes are no part of the language"),
     ("instance", "data T = A\ninstance Eq T where\n  A == A = True", "5:1", "instances are no part of the language"),
     ("record", "data P = P { x :: Nat }", "4:12", "records are no part of the language"),
+    ("record pattern", "data P = P Nat\nf P { x = y } = y", "5:5", "records are no part of the language"),
     ("do", "f = do\n  x", "4:5", "`do` is no part of the language"),
     ("comprehension", "f xs = [x | x <- xs]", "4:8", "use `map`, `filter` and `concatMap`"),
     ("range", "f = [1..5]", "4:5", "write a function that makes the list"),
@@ -374,9 +408,11 @@ REFUSALS = [
     ("length of both", "module M where\nimport Nat\nf xs = length xs", "3:8", "is a name of Nat and of the Prelude"),
     ("operators", "f x y z = x == y == z", "4:18", "bind equally: put parentheses"),
     ("operator on the left", "infix 6 :&\ninfixl 7 |*|\ndata V = Nat :& Nat\na :& b |*| c = a", "7:3", "`|*|`, which is defined here, binds more than `:&`"),
-    ("fixity of a local operator", "f (+) x = x + x * 2", "4:13", "`+` has a fixity where it is defined elsewhere, which does not hold here"),
-    ("fixity of a block", "f x = x <> x <> x where { infixr 3 <>; a <> b = a }\ng x = x <> x <> x where a <> b = a", "5:9", "`<>` has a fixity where"),
-    ("two fixities", "infixl 3 +++\na +++ b = a\nf x = x where { infixr 3 +++; a +++ b = a }", "6:26", "`+++` has two fixities in this module"),
+    ("two fixities", "infixl 3 +++\ninfixr 3 +++\na +++ b = a", "5:10", "`+++` has two fixities"),
+    ("fixity alone", "infixl 3 +++\nf x = x", "4:10", "`+++` has a fixity and no equation here"),
+    ("fixity of a parameter", "f cmp x = x where infixl 3 `cmp`", "4:29", "`cmp` has a fixity and no equation here"),
+    ("fixities within", "f x = x +++ x -|- x where { infixl 3 +++; infixr 3 -|-; a +++ b = a; a -|- b = a }", "4:15",
+     "`-|-` and `+++` bind equally"),
     ("section", "f x = (x + x *)", "4:14", "binds more than what stands before it"),
     ("comment", "f x = x {- oh", "4:9", "has no end"),
     ("parenthesis", "f x = (x\ng = f", "5:1", "`)` is wanted behind the expression, before the line"),

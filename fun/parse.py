@@ -1,4 +1,11 @@
-"""The parser: from tokens to the syntax tree, by recursive descent. Operators are ordered by their fixities."""
+"""The parser: from tokens to the syntax tree, by recursive descent. Operators are ordered by their fixities.
+
+A fixity holds where the operator of its declaration is in scope: one in a `where` holds in the equation before it, and
+an operator that is bound without one has the usual fixity, whatever another one of its name has. So an equation whose
+`where` turns out to change a fixity is parsed a second time, with it.
+"""
+
+import contextlib
 
 from fun import syntax as s
 from fun.layout import Stream
@@ -13,6 +20,7 @@ PRELUDE_FIXITIES = {
     ">>=": ("infixl", 1), ">>": ("infixl", 1), "$!": ("infixr", 0), "`seq`": ("infixr", 0), "!!": ("infixl", 9),
     "<>": ("infixr", 6), "**": ("infixr", 8), "^^": ("infixr", 8), "<$": ("infixl", 4), "=<<": ("infixr", 1),
 }
+USUAL = ("infixl", 9)  # the fixity of an operator that has none of its own
 MOST_PARTS = 7
 NO_TEXTS = "characters and strings are no part of the language: use a data type with a constructor for each that occurs"
 NO_NUMBER = "the only numbers are 0 to 20 of `Nat`, from `import Nat`: write others as sums or with `Succ`"
@@ -23,13 +31,9 @@ def refuse(at, sentence):
     raise Refused([Message(at[0], at[1], sentence)])
 
 
-class Uses:
-    """What a top-level declaration has to do with fixities: operators are ordered before it is known what they name."""
-
-    def __init__(self):
-        self.ordered = {}  # the operators whose fixity mattered, each with a place
-        self.bound = set()  # the names that are bound within the declaration
-        self.fixities = set()  # the operators whose fixities are declared within it
+def spelled(name):
+    """A name as an operator, as fixities are kept by it: in backquotes where it is no sign."""
+    return f"`{name}`" if name[0].isalpha() or name[0] == "_" else name
 
 
 class Parser:
@@ -38,10 +42,11 @@ class Parser:
     def __init__(self, text):
         self.stream = Stream(text)
         self.messages = []
-        self.fixities = dict(PRELUDE_FIXITIES)
-        self.module_fixities = {}
-        self.uses, self.all_uses = Uses(), []
-        self._read_fixities()
+        self.fixities = dict(PRELUDE_FIXITIES)  # those that hold here
+        self.trials = 0  # how many equations are parsed whose `where` is yet to come
+        self.doubted = False  # whether operators stood in such an equation that the fixities so far leave open
+        self.module_fixities = {name: fixity for name, (fixity, _) in self.fixities_from(self.top_places()).items()}
+        self.fixities.update(self.module_fixities)
 
     # Tokens
 
@@ -84,34 +89,101 @@ class Parser:
         refuse(place, f"{raw} can't stand here: {sentence}")
         return None
 
-    def _read_fixities(self):
-        """Reads all fixity declarations first, since operators may be used before them."""
-        tokens, i = self.stream.tokens, 0
-        while i < len(tokens):
-            if tokens[i].kind == "word" and tokens[i].text in ("infixl", "infixr", "infix"):
-                side, level, i = tokens[i].text, 9, i + 1
-                if tokens[i].kind == "number":
-                    if tokens[i].text not in tuple("0123456789"):
-                        refuse(tokens[i].at, "a fixity is a number from 0 to 9")
-                    level, i = int(tokens[i].text), i + 1
-                i = self._fixity_names(tokens, i, (side, level))
-            else:
-                i += 1
+    # Fixities
 
-    def _fixity_names(self, tokens, i, fixity):
-        while True:
-            if tokens[i].text == "`":
-                name, i = f"`{tokens[i + 1].text}`", i + 3
+    def top_places(self):
+        """The places of the tokens at which the items of the module begin."""
+        tokens, begin = self.stream.tokens, 0
+        if tokens[0].text == "module":
+            begin = next((i + 1 for i, token in enumerate(tokens) if token.text == "where"), len(tokens) - 1)
+        return self.item_places(begin)
+
+    def item_places(self, begin):
+        """The places of the tokens at which the items of a block begin: of one with layout, or of one in braces."""
+        tokens, depth = self.stream.tokens, 0
+        column, braced, declares = tokens[begin].column, tokens[begin].text == "{", False
+        for place in range(begin, len(tokens)):
+            token = tokens[place]
+            depth += {"{": 1, "}": -1}.get(token.text, 0) if token.kind == "special" else 0
+            if depth < 0 or not depth and (braced or token.first and token.column < column):
+                return
+            before = tokens[place - 1].text if place else ""
+            if braced:
+                begins = depth == 1 and before in (";", "{")
             else:
-                name, i = tokens[i].text, i + 1
-            if self.module_fixities.get(name, fixity) != fixity:
-                self.complain(tokens[i - 1].at, f"`{name.strip('`')}` has two fixities in this module: give one of the operators "
-                              "another name")
-            self.fixities[name] = fixity
-            self.module_fixities[name] = fixity
+                # a `;` behind an equation may be one of a block within it
+                begins = place == begin or token.first and token.column == column or declares and before == ";"
+                begins = begins and not depth
+            if begins:
+                declares = token.text in ("infixl", "infixr", "infix")
+                yield place
+
+    def fixities_from(self, places):
+        """The fixities that the items at these places declare, each with its place."""
+        tokens, found = self.stream.tokens, {}
+        for i in places:
+            if tokens[i].kind != "word" or tokens[i].text not in ("infixl", "infixr", "infix"):
+                continue
+            side, level, i = tokens[i].text, 9, i + 1
+            if tokens[i].kind == "number":
+                if tokens[i].text not in tuple("0123456789"):
+                    refuse(tokens[i].at, "a fixity is a number from 0 to 9")
+                level, i = int(tokens[i].text), i + 1
+            for token in self.fixity_names(i):
+                name = spelled(token.text)
+                if name in found:
+                    self.complain(token.at, f"`{token.text}` has two fixities: give one of the operators another name")
+                found[name] = ((side, level), token.at)
+        return found
+
+    def fixity_names(self, i):
+        """The tokens of the names that a fixity is given to, which begin at that place."""
+        tokens = self.stream.tokens
+        while i + 2 < len(tokens):
+            quoted = tokens[i].text == "`"
+            yield tokens[i + 1] if quoted else tokens[i]
+            i += 3 if quoted else 1
             if tokens[i].text != ",":
-                return i
+                return
             i += 1
+
+    def check_defined(self, declared, names):
+        """Refuses the fixity of a name that is not defined beside it."""
+        defined = {spelled(name) for name in names}
+        for name, (_, at) in declared.items():
+            if name not in defined:
+                self.complain(at, f"`{name.strip('`')}` has a fixity and no equation here")
+
+    @contextlib.contextmanager
+    def scope(self):
+        """What gets a fixity within has it within alone."""
+        outer = self.fixities
+        try:
+            yield
+        finally:
+            self.fixities = outer
+
+    def bind(self, name, fixity=USUAL):
+        """From here on in this scope the name has that fixity."""
+        if self.fixity(spelled(name)) != fixity:
+            self.fixities = {**self.fixities, spelled(name): fixity}
+
+    def state(self):
+        """How far the parse is, for `go_back`."""
+        stream = self.stream
+        return stream.place, stream.begins, stream.closed, list(stream.columns), len(self.messages)
+
+    def go_back(self, state):
+        """Back to where the parse was."""
+        stream = self.stream
+        stream.place, stream.begins, stream.closed, stream.columns[:], count = state
+        del self.messages[count:]
+
+    def unordered(self, at, sentence):
+        """Refuses operators that no fixity orders; where a `where` is yet to come it may have the fixity."""
+        if not self.trials:
+            refuse(at, sentence)
+        self.doubted = True
 
     # The module
 
@@ -127,13 +199,15 @@ class Parser:
         if not explicit and self.stream.raw().kind == "end":
             return result
         self.stream.block(lambda: self.guarded(result))
-        self.check_fixities()
         if self.stream.raw().kind != "end":
             self.messages.append(self.stray())
         if self.messages:
             raise Refused(self.messages)
         result.fixities = self.module_fixities
         result.declarations = self.gather(result.declarations)
+        names = [one.name for one in result.declarations if isinstance(one, s.Function)]
+        names += [one.name for data in result.datas for one in data.constructors]
+        self.check_defined(self.fixities_from(self.top_places()), names)
         if self.messages:
             raise Refused(self.messages)
         return result
@@ -142,16 +216,6 @@ class Parser:
         """The message for what stands behind the module."""
         token = self.stream.raw()
         return Message(*token.at, f"{token} can't stand here: no declaration begins with it in column {token.column}")
-
-    def check_fixities(self):
-        """Refuses an operator that was ordered by the fixity of another one of its name."""
-        within = set().union(*(uses.fixities for uses in self.all_uses))
-        for uses in self.all_uses:
-            for name, at in uses.ordered.items():
-                bare = name.strip("`")
-                if name not in uses.fixities and (name in within or bare in uses.bound):
-                    self.complain(at, f"`{bare}` has a fixity where it is defined elsewhere, which does not hold here: put "
-                                  "parentheses, or give one of the two another name")
 
     def drop_fixities(self, one):
         """After an import of the Prelude: what it leaves out and the module defines anew has no fixity from there."""
@@ -164,8 +228,7 @@ class Parser:
     def guarded(self, result):
         """A top-level item; after an error the parse goes on where the next one begins."""
         columns, begin = list(self.stream.columns), self.stream.place
-        self.uses = Uses()
-        self.all_uses.append(self.uses)
+        self.trials, self.doubted = 0, False
         try:
             self.top(result)
             if not self.ended():
@@ -235,7 +298,7 @@ class Parser:
         elif self.at("type"):
             result.synonyms.append(self.synonym())
         else:
-            result.declarations.extend(self.declaration(set()))
+            result.declarations.extend(self.declaration())
 
     def import_(self):
         """An import."""
@@ -484,23 +547,41 @@ class Parser:
     # Declarations
 
     def declarations(self):
-        """The declarations of a block, with the clauses of a function gathered."""
-        found = []
-        for some in self.stream.block(lambda: self.declaration(self.uses.fixities)):
-            found.extend(some)
-        self.uses.bound |= {one.name for one in found if isinstance(one, s.Function)}
+        """The declarations of a block, with the clauses of a function gathered. Their fixities hold from here on."""
+        declared = self.fixities_from(self.item_places(self.stream.place)) if self.block_ahead() else {}
+        state = self.state()
+        for name, (fixity, _) in declared.items():
+            self.bind(name.strip("`"), fixity)
+        before, found = self.fixities, self.block_of_declarations()
+        names = s.scope_of([one for one in found if not isinstance(one, s.Signature)])
+        for name in names:
+            self.bind(name, declared[spelled(name)][0] if spelled(name) in declared else USUAL)
+        if self.fixities is not before:
+            self.go_back(state)
+            found = self.block_of_declarations()
+        self.check_defined(declared, names)
         return self.gather(found)
 
-    def declaration(self, fixities):
-        """A signature, a fixity, a clause or a pattern binding: a list of at most one.
+    def block_ahead(self):
+        """Whether a block that is not empty begins here."""
+        token, columns = self.stream.raw(), self.stream.columns
+        return token.text == "{" or token.kind != "end" and (not columns or token.column > columns[-1])
 
-        The operators of a fixity, which are known from before, come into `fixities`.
-        """
+    def block_of_declarations(self):
+        """The declarations of a block as they stand there."""
+        return [one for some in self.stream.block(self.declaration) for one in some]
+
+    def declaration(self):
+        """A signature, a fixity, a clause or a pattern binding: a list of at most one. Fixities are known from before."""
+        with self.scope():
+            return self.declaration_in_scope()
+
+    def declaration_in_scope(self):
+        """As `declaration`; what its patterns bind is in scope to its end."""
         token = self.peek()
         if self.at("infixl", "infixr", "infix"):
             while not self.ended():
-                token = self.take()
-                fixities.update((token.text, f"`{token.text}`"))
+                self.take()
             return []
         if self.signature_ahead():
             names = [self.named_variable()]
@@ -650,31 +731,56 @@ class Parser:
         self.messages.append(Message(at[0], at[1], sentence))
 
     def right(self, sign):
-        """A right side behind `=` or `->`, with guards or without, and its `where`."""
+        """A right side behind `=` or `->`, with guards or without, and its `where`, whose fixities hold in all of it."""
+        state, outer_doubted = self.state(), self.doubted
+        self.trials, self.doubted = self.trials + 1, False
+        try:
+            found, fixities = self.right_once(sign)
+        finally:
+            self.trials -= 1
+        again, self.doubted = self.doubted or fixities, outer_doubted
+        if not again:
+            return found
+        self.go_back(state)
+        with self.scope():
+            self.fixities = {**self.fixities, **fixities}
+            return self.right_once(sign)[0]
+
+    def right_once(self, sign):
+        """A right side, parsed with the fixities of before, and those that its `where` changes."""
         at, alternatives = self.peek().at, []
         if self.at("|"):
             while self.accept("|"):
-                guards = [self.guard()]
-                while self.accept(","):
-                    guards.append(self.guard())
-                self.expect(sign, "behind the guards")
-                alternatives.append((guards, self.expression()))
+                with self.scope():
+                    alternatives.append(self.guarded_alternative(sign))
         else:
             self.expect(sign, "before the right side")
             alternatives.append(([], self.expression()))
-        where = self.declarations() if self.accept("where") else []
-        return s.Right(alternatives, where, at)
+        before = self.fixities
+        with self.scope():
+            where = self.declarations() if self.accept("where") else []
+            fixities = {name: one for name, one in self.fixities.items() if before.get(name, USUAL) != one}
+        return s.Right(alternatives, where, at), fixities
+
+    def guarded_alternative(self, sign):
+        """Guards with the expression behind them."""
+        guards = [self.guard()]
+        while self.accept(","):
+            guards.append(self.guard())
+        self.expect(sign, "behind the guards")
+        return guards, self.expression()
 
     def guard(self):
         """A guard: a condition, `pattern <- expression` or `let ..`."""
         token = self.peek()
         if self.at("let"):
-            place = self.stream.place
+            state, outer = self.state(), self.fixities
             self.take()
             found = self.declarations()
             if not self.at("in"):
                 return s.LetGuard(found, token.at)
-            self.stream.place = place
+            self.fixities = outer
+            self.go_back(state)
         if self.pattern_ahead():
             pattern = self.pattern()
             self.expect("<-", "behind the pattern of a guard")
@@ -709,7 +815,7 @@ class Parser:
         if token.kind == "type":
             name = self.type_name("a constructor")
             if self.at("{"):
-                refuse(self.peek().at, "records are no part of the language: give the fields by their places")
+                return self.any_fields(name, token)
             arguments = []
             while self.begins_apattern():
                 arguments.append(self.apattern())
@@ -743,7 +849,7 @@ class Parser:
         token = self.peek()
         if token.kind == "name" or self.operator_name_ahead():
             name = self.variable("a variable")
-            self.uses.bound.add(name)
+            self.bind(name)
             if self.accept("@"):
                 return s.PAs(name, self.apattern(), token.at)
             return s.PVar(name, token.at)
@@ -752,7 +858,7 @@ class Parser:
         if token.kind == "type":
             name = self.type_name("a constructor")
             if self.at("{"):
-                refuse(self.peek().at, "records are no part of the language: give the fields by their places")
+                return self.any_fields(name, token)
             return s.PCon(name, [], token.at)
         if token.kind == "number":
             return s.PLit(self.number(), token.at)
@@ -767,6 +873,13 @@ class Parser:
         if self.at("!"):
             refuse(token.at, "bang patterns are no part of the language: leave out the `!`")
         return self.wanted("a pattern is wanted")
+
+    def any_fields(self, name, token):
+        """The pattern `C {}`, which matches whatever the fields of the constructor are; other records are refused."""
+        brace = self.take()
+        if not self.accept("}"):
+            refuse(brace.at, "records are no part of the language: give the fields by their places")
+        return s.PCon(name, [], token.at, any_fields=True)
 
     def list_pattern(self, token):
         """What stands behind `[` in a pattern."""
@@ -863,10 +976,8 @@ class Parser:
             while waiting:
                 other, other_at = waiting[-1]
                 other_side, other_level = self.fixity(other)
-                self.uses.ordered.setdefault(other, other_at)
-                self.uses.ordered.setdefault(name, at)
                 if other_level == level and (side != other_side or side == "infix"):
-                    refuse(at, f"`{name.strip('`')}` and `{other.strip('`')}` bind equally: put parentheses")
+                    self.unordered(at, f"`{name.strip('`')}` and `{other.strip('`')}` bind equally: put parentheses")
                 if other_level > level or other_level == level and side == "infixl":
                     waiting.pop()
                     right, left = parts.pop(), parts.pop()
@@ -885,7 +996,7 @@ class Parser:
 
     def fixity(self, name):
         """The side and the level of an operator."""
-        return self.fixities.get(name, ("infixl", 9))
+        return self.fixities.get(name, USUAL)
 
     def section_ends(self):
         """Whether a parenthesis closes here, behind an operator."""
@@ -895,7 +1006,8 @@ class Parser:
         """A left section `(e op`: all that waits binds more than the last operator, or it is refused."""
         name, at = waiting.pop()
         if waiting:
-            refuse(at, f"the section's operator `{name.strip('`')}` binds more than what stands before it: put parentheses")
+            self.unordered(at, f"the section's operator `{name.strip('`')}` binds more than what stands before it: put "
+                           "parentheses")
         return s.App(operator_node(name, at), parts[0], at)
 
     def expression_operator(self):
@@ -925,9 +1037,10 @@ class Parser:
         if self.at("\\"):
             return self.lambda_()
         if self.accept("let"):
-            declarations = self.declarations()
-            self.expect("in", "behind the declarations of `let`")
-            return s.Let(declarations, self.expression(), token.at)
+            with self.scope():
+                declarations = self.declarations()
+                self.expect("in", "behind the declarations of `let`")
+                return s.Let(declarations, self.expression(), token.at)
         if self.accept("if"):
             return self.if_(token)
         if self.accept("case"):
@@ -948,11 +1061,12 @@ class Parser:
         at = self.take().at
         if self.at("case"):
             refuse(at, "`\\case` is no part of the language: write `\\x -> case x of`")
-        patterns = [self.apattern()]
-        while not self.at("->"):
-            patterns.append(self.apattern())
-        self.take()
-        right = s.Right([([], self.expression())], [], at)
+        with self.scope():
+            patterns = [self.apattern()]
+            while not self.at("->"):
+                patterns.append(self.apattern())
+            self.take()
+            right = s.Right([([], self.expression())], [], at)
         return s.Lam(s.Clause(patterns, right, at), at)
 
     def if_(self, token):
@@ -968,8 +1082,9 @@ class Parser:
     def alternative(self):
         """An alternative of a `case`."""
         at = self.peek().at
-        pattern = self.pattern()
-        return s.Clause([pattern], self.right("->"), at)
+        with self.scope():
+            pattern = self.pattern()
+            return s.Clause([pattern], self.right("->"), at)
 
     def application(self):
         """Atoms side by side."""
@@ -1088,10 +1203,8 @@ class Parser:
         result = self.chain(self.prefix, operator, self.join)
         for other, other_at in lowest:
             other_side, other_level = self.fixity(other)
-            self.uses.ordered.setdefault(name, at)
-            self.uses.ordered.setdefault(other, other_at)
             if other_level < level or other_level == level and not (side == other_side == "infixr"):
-                refuse(other_at, f"`{other.strip('`')}` binds less than the section's operator: put parentheses")
+                self.unordered(other_at, f"`{other.strip('`')}` binds less than the section's operator: put parentheses")
         return result
 
 

@@ -135,7 +135,7 @@ class PWild:
 
 @dataclass
 class PCon:
-    """A constructor with patterns; `info` and `types` as for `Con`."""
+    """A constructor with patterns; `info` and `types` as for `Con`. For `C {}` its fields get a `_` each."""
 
     name: str
     arguments: list
@@ -143,6 +143,7 @@ class PCon:
     info: object = None
     types: list = None
     type: object = None
+    any_fields: bool = False
 
 
 @dataclass

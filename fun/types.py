@@ -582,6 +582,8 @@ class Checker:
             for one in pattern.arguments:
                 self.pattern(one, self.fresh(), env, names, what)
             return
+        if pattern.any_fields:
+            pattern.arguments = [s.PWild(pattern.at) for _ in info.fields]
         if info.arity != len(pattern.arguments):
             self.complain(pattern.at, f"`{info.name}` has {counted(info.arity, 'field')}, and "
                           f"{len(pattern.arguments)} stand{'s' if len(pattern.arguments) == 1 else ''} in this pattern")
