@@ -201,7 +201,7 @@ def prove(given, seed):
 
 
 def hunt(given, seed):
-    """How the hunt ended on that seed's system, and the seconds that it took; a proof counts where `check` accepts it."""
+    """How the hunt ended on that seed's system, and the seconds that it took; `check` is to accept what is found."""
     with system_of(seed) as file, tempfile.NamedTemporaryFile("w") as certificate:
         status, output, seconds = run([given.hunter, file, "--work", str(given.work)], given.seconds)
         answer = answer_of(status, output)
