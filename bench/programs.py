@@ -315,7 +315,7 @@ def read_words():
 def main():
     options = read_words()
     sys.setrecursionlimit(20_000)
-    with Remembering(ask.ready("wanda", "gen", "1"), options.seconds, options.known) as runner:
+    with Remembering(ask.ready("wanda"), options.seconds, options.known) as runner:
         runner.jobs = options.jobs
         if options.measure:
             measure(runner)

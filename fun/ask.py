@@ -49,31 +49,32 @@ def read_answer(output):
     return Answer(found[1], "", output) if found[1] in PROOFS else Answer(found[1], found[2] or "")
 
 
-def place_of(name):
-    """The program of that name: what the environment names, what was built here, or what lies beside a release."""
-    crate = name.replace("-", "_")
+def ready(name):
+    """The place of a program: the one that the environment names, else what `wanda-launch` would start, which it builds
+    where it is not there or is old."""
     named = os.environ.get(VARIABLES[name])
     if named:
-        return pathlib.Path(named)
-    return TOP / "crates" / crate / "out" / crate if (TOP / "crates").is_dir() else TOP / name
-
-
-def ready(name, *trial):
-    """The place of a program, which its script builds where it is not there or is old: it is run with `trial` for that."""
-    if not os.environ.get(VARIABLES[name]):
-        quiet = subprocess.DEVNULL
-        if subprocess.run([TOP / name, *trial], stdin=quiet, stdout=quiet, check=False).returncode:
+        program = pathlib.Path(named)
+    else:
+        words = [TOP / "wanda-launch", "--which", name.replace("-", "_")]
+        found = subprocess.run(words, stdin=subprocess.DEVNULL, stdout=subprocess.PIPE, text=True, check=False)
+        if found.returncode:
             raise NotBuilt(f"{name} could not be built or started")
-    program = place_of(name)
+        program = pathlib.Path(found.stdout.rstrip("\n").partition(" ")[2])
     if not os.access(program, os.X_OK):
         raise NotBuilt(f"there is no program {program}")
     return program
 
 
 def hunter():
-    """The program that looks longer, where it is built."""
-    program = place_of("wanda-hunt")
-    return program if os.access(program, os.X_OK) else None
+    """The program that looks longer, where it is built: proved, unproved, or in a release."""
+    crate = "wanda_hunt"
+    places = [TOP / "crates" / crate / "out" / crate, TOP / "out" / "unproved" / crate / crate, TOP / "wanda-hunt"]
+    if (TOP / "crates").is_dir():
+        places.pop()
+    if os.environ.get(VARIABLES["wanda-hunt"]) or any(os.access(it, os.X_OK) for it in places):
+        return ready("wanda-hunt")
+    return None
 
 
 class Progress:

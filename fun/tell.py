@@ -37,7 +37,7 @@ def add_words(parser):
     group.add_argument("--table", action="store_true", help="the same as lines with tabs: name, type, answer, seconds, words")
     group.add_argument("--json", action="store_true", help="the same as an object in JSON")
     group.add_argument("--explain", metavar="NAME", help="why a function ends or not, step by step")
-    group.add_argument("--hunt", action="store_true", help="asks wanda-hunt, too, where prove finds nothing")
+    group.add_argument("--hunt", action="store_true", help="as --prove, and asks wanda-hunt where prove finds nothing")
     jobs_help = "how many searches run side by side; as many as there are processors if not given"
     group.add_argument("--jobs", metavar="N", type=at_least_one, default=os.cpu_count() or 1, help=jobs_help)
     group.add_argument("--seconds", metavar="S", type=float, default=60.0, help="how long each may take; 60 if not given")
@@ -45,7 +45,7 @@ def add_words(parser):
 
 def wanted(words):
     """Whether the options ask for answers."""
-    return words.prove or words.table or words.json or words.explain is not None
+    return words.prove or words.hunt or words.table or words.json or words.explain is not None
 
 
 # what is told of a system
@@ -449,7 +449,7 @@ def explained(translation, runner, name):
     head = [f"{function.name} :: {function.type}", f"{row.answer.found}: {row.words}", ""]
     if row.loop:
         return head + list(details(row))
-    program = ask.ready("wanda-explain", "--lint", os.devnull)
+    program = ask.ready("wanda-explain")
     files = [runner.file(part.system.text)]
     files += [runner.file(part.answer.certificate)] if part.answer.certificate else []
     explanation = Explanation(words)
@@ -462,7 +462,7 @@ def explained(translation, runner, name):
 def tell(translation, words):
     """Asks and prints; the status of the script."""
     try:
-        program = ask.ready("wanda", "gen", "1")
+        program = ask.ready("wanda")
         hunter = ask.hunter() if words.hunt else None
         if words.hunt and not hunter:
             print("wanda-fun: wanda-hunt is not built here, so prove alone is asked", file=sys.stderr)
